@@ -1,0 +1,23 @@
+//! Runs both sides on the same inputs. Argument: a seed.
+
+use cases::random::{Random, SEED};
+use cases::{align, sort};
+use std::process::ExitCode;
+
+type Compare = fn(&mut Random) -> Result<usize, String>;
+
+fn main() -> ExitCode {
+    let seed = std::env::args().nth(1).map_or(SEED, |a| a.parse().expect("the seed is a number"));
+    println!("seed {seed}");
+    let modules: [(&str, Compare); 2] = [("align", align::compare), ("sort", sort::compare)];
+    for (name, compare) in modules {
+        match compare(&mut Random::new(seed)) {
+            Ok(cases) => println!("{name}: {cases} cases, no difference"),
+            Err(difference) => {
+                println!("{name}: {difference}");
+                return ExitCode::FAILURE;
+            }
+        }
+    }
+    ExitCode::SUCCESS
+}

@@ -1,0 +1,7 @@
+//! The inputs on which both sides are run, a module for each module of the Rust.
+
+pub mod align;
+pub mod random;
+pub mod shrink;
+pub mod sort;
+pub mod table;
