@@ -1,10 +1,11 @@
--- What holds of every element of a list, of its parts and at each index; over any element type.
+-- What holds of every element of a list or of some: of its parts and at each index; over any element type.
 use Prim.Native.Nat.{ℕ, zero, suc, _<_}
 use mathlib.Core.List.{List, [], _∷_, _++_}
+use mathlib.Core.Logic.{_⊎_, inl, inr, ⊎-elim}
 use native.Mathlib.Nat.{le-of-suc-le-suc, not-suc-le-zero}
 use native.Mathlib.Omega.{arith}
 use lib.ListN.{length, getD, take, drop}
-use Rattle.numbers.specs.Lists.{All}
+use Rattle.numbers.specs.Lists.{All, Any}
 
 module _ {A : Type 0} (P : A → Type 0) where
   pub all-append : (xs ys : List A) → All P xs → All P ys → All P (xs ++ ys)
@@ -42,3 +43,42 @@ module _ {A : Type 0} (P : A → Type 0) where
   pub all-imp : (Q : A → Type 0) → ((x : A) → P x → Q x) → (l : List A) → All P l → All Q l
   all-imp Q f [] a = tt
   all-imp Q f (x ∷ xs) a = (f x (a .0), all-imp Q f xs (a .1))
+
+  -- some element: of either part, at an index, and not where all are ruled out
+  pub any-left : (xs ys : List A) → Any P xs → Any P (xs ++ ys)
+  any-left [] ys a = absurd a
+  any-left (x ∷ xs) ys (inl p) = inl p
+  any-left (x ∷ xs) ys (inr a) = inr (any-left xs ys a)
+
+  pub any-right : (xs ys : List A) → Any P ys → Any P (xs ++ ys)
+  any-right [] ys a = a
+  any-right (x ∷ xs) ys a = inr (any-right xs ys a)
+
+  pub any-part : (xs ys : List A) → Any P (xs ++ ys) → Any P xs ⊎ Any P ys
+  any-part [] ys a = inr a
+  any-part (x ∷ xs) ys (inl p) = inl (inl p)
+  any-part (x ∷ xs) ys (inr a) = ⊎-elim (λ b. inl (inr b)) (λ b. inr b) (any-part xs ys a)
+
+  pub any-of : (l : List A) (i : ℕ) (d : A) → i < length l → P (getD l i d) → Any P l
+  any-of [] i d h p = absurd (not-suc-le-zero h)
+  any-of (x ∷ xs) zero d h p = inl p
+  any-of (x ∷ xs) (suc i) d h p = inr (any-of xs i d (le-of-suc-le-suc h) p)
+
+  pub any-at : (l : List A) (d : A) → Any P l → (i : ℕ) × (i < length l) × P (getD l i d)
+  any-at [] d a = absurd a
+  any-at (x ∷ xs) d (inl p) = (0, omega arith, p)
+  any-at (x ∷ xs) d (inr a) = let r = any-at xs d a in let h = r .1 in (suc (r .0), omega arith, r .2)
+
+  pub any-imp : (Q : A → Type 0) → ((x : A) → P x → Q x) → (l : List A) → Any P l → Any Q l
+  any-imp Q f [] a = a
+  any-imp Q f (x ∷ xs) (inl p) = inl (f x p)
+  any-imp Q f (x ∷ xs) (inr a) = inr (any-imp Q f xs a)
+
+  pub none-all : (l : List A) → (Any P l → ⊥) → All (λ (x : A). P x → ⊥) l
+  none-all [] n = tt
+  none-all (x ∷ xs) n = (λ p. n (inl p), none-all xs (λ a. n (inr a)))
+
+  pub all-none : (l : List A) → All (λ (x : A). P x → ⊥) l → Any P l → ⊥
+  all-none [] f a = a
+  all-none (x ∷ xs) f (inl p) = f .0 p
+  all-none (x ∷ xs) f (inr a) = all-none xs (f .1) a
