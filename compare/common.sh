@@ -14,9 +14,8 @@ command -v rt >/dev/null 2>&1 || lacking "the Rattle kit is not at hand"
 [ -d "$root/../shared/docs/src/crates" ] || lacking "the Rust sources are not at hand: ../shared/docs/src is missing"
 
 cd "$root" || exit 2
-log=$(mktemp)
-if ! rt staticlib exports >"$log" 2>&1; then
-  cat "$log"
+if ! log=$(rt staticlib exports 2>&1); then
+  echo "$log"
   exit 2
 fi
 export EXPORTS="$root/target/staticlib"

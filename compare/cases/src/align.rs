@@ -51,8 +51,19 @@ pub fn compare(random: &mut Random) -> Result<usize, String> {
 
 /// Lines `align_up value align: some value`.
 pub fn sample(random: &mut Random) {
-    println!("-- What align.rs answers to value and align: whether there is a place (one or zero), and the place. Made by compare/sample.");
-    let mut inputs = vec![(4097, 4096), (u64::MAX, 2), (0, 0), (0, 1), (u64::MAX, 1), (5000, 4096), (8192, 4096), (1, 3)];
+    println!(
+        "-- What align.rs answers to value and align: whether there is a place (one or zero), and the place. Made by compare/sample."
+    );
+    let mut inputs = vec![
+        (4097, 4096),
+        (u64::MAX, 2),
+        (0, 0),
+        (0, 1),
+        (u64::MAX, 1),
+        (5000, 4096),
+        (8192, 4096),
+        (1, 3),
+    ];
     for k in 0..64 {
         let align = 1u64 << k;
         inputs.push((random.sized(), align));
@@ -63,23 +74,47 @@ pub fn sample(random: &mut Random) {
     }
     for (value, align) in inputs {
         let r = oracle::align::align_up(value, align);
-        println!("align_up {value} {align}: {} {}", u64::from(r.is_some()), r.unwrap_or(0));
+        println!(
+            "align_up {value} {align}: {} {}",
+            u64::from(r.is_some()),
+            r.unwrap_or(0)
+        );
     }
 }
 
 pub fn bench(random: &mut Random) {
     let n = 1 << 16;
-    for (name, any_align) in [("align_up, a power of two", false), ("align_up, any align", true)] {
+    for (name, any_align) in [
+        ("align_up, a power of two", false),
+        ("align_up, any align", true),
+    ] {
         let inputs: Vec<(u64, u64)> = (0..n)
-            .map(|_| (random.sized(), if any_align { random.sized() } else { 1 << random.below(64) }))
+            .map(|_| {
+                (
+                    random.sized(),
+                    if any_align {
+                        random.sized()
+                    } else {
+                        1 << random.below(64)
+                    },
+                )
+            })
             .collect();
         let run = |f: fn(u64, u64) -> Option<u64>| {
-            median(41, || (), |()| {
-                for &(value, align) in &inputs {
-                    black_box(f(black_box(value), black_box(align)));
-                }
-            }) / n as f64
+            median(
+                41,
+                || (),
+                |()| {
+                    for &(value, align) in &inputs {
+                        black_box(f(black_box(value), black_box(align)));
+                    }
+                },
+            ) / n as f64
         };
-        row(name, run(|v, a| oracle::align::align_up(v, a)), run(ours::align_up));
+        row(
+            name,
+            run(|v, a| oracle::align::align_up(v, a)),
+            run(ours::align_up),
+        );
     }
 }

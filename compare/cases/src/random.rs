@@ -26,7 +26,11 @@ impl Random {
     /// A number of a random size: as often small as large.
     pub fn sized(&mut self) -> u64 {
         let bits = self.below(65);
-        if bits == 0 { 0 } else { self.next() >> (64 - bits) }
+        if bits == 0 {
+            0
+        } else {
+            self.next() >> (64 - bits)
+        }
     }
 }
 

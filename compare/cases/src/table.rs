@@ -17,9 +17,15 @@ pub fn median<T>(rounds: usize, mut prepare: impl FnMut() -> T, mut f: impl FnMu
 }
 
 pub fn head() {
-    println!("{:<44} {:>14} {:>14} {:>8}", "operation", "Rust ns", "ours ns", "ratio");
+    println!(
+        "{:<44} {:>14} {:>14} {:>8}",
+        "operation", "Rust ns", "ours ns", "ratio"
+    );
 }
 
 pub fn row(operation: &str, rust: f64, ours: f64) {
-    println!("{operation:<44} {rust:>14.1} {ours:>14.1} {:>8.2}", ours / rust);
+    println!(
+        "{operation:<44} {rust:>14.1} {ours:>14.1} {:>8.2}",
+        ours / rust
+    );
 }

@@ -4,7 +4,9 @@ use cases::random::{Random, SEED};
 use cases::{align, sort, table};
 
 fn main() {
-    let seed = std::env::args().nth(1).map_or(SEED, |a| a.parse().expect("the seed is a number"));
+    let seed = std::env::args()
+        .nth(1)
+        .map_or(SEED, |a| a.parse().expect("the seed is a number"));
     table::head();
     align::bench(&mut Random::new(seed));
     sort::bench(&mut Random::new(seed));

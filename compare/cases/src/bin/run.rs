@@ -7,7 +7,9 @@ use std::process::ExitCode;
 type Compare = fn(&mut Random) -> Result<usize, String>;
 
 fn main() -> ExitCode {
-    let seed = std::env::args().nth(1).map_or(SEED, |a| a.parse().expect("the seed is a number"));
+    let seed = std::env::args()
+        .nth(1)
+        .map_or(SEED, |a| a.parse().expect("the seed is a number"));
     println!("seed {seed}");
     let modules: [(&str, Compare); 2] = [("align", align::compare), ("sort", sort::compare)];
     for (name, compare) in modules {
