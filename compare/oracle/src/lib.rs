@@ -1,5 +1,7 @@
-//! The Rust project's own files, built unchanged from the sources beside the checkout.
+//! The Rust project's own files, built unchanged from the sources beside the checkout (rustfmt
+//! would lay them out anew).
 
+#[rustfmt::skip]
 #[path = "../../../../shared/docs/src/crates/store-io-core/src/align.rs"]
 pub mod align;
 
