@@ -4,7 +4,7 @@ use mathlib.Core.List.{List}
 use mathlib.Core.Path.{_≡_}
 use lib.ListN.{length, drop}
 
--- At most the first n slots were written. The second length follows from the first, and is stated for those who lend the front.
+-- At most the first n slots were written.
 pub record Filled (entry exit : List ℕ) (n : ℕ) : Type 0 where
   pub inside : n ≤ length exit
   pub long : length exit ≡ length entry
