@@ -1,9 +1,9 @@
--- What a flat answer means.
+-- An answer as two numbers.
 use Prim.Native.Nat.{ℕ}
-use mathlib.Core.Bool.{cond}
 use mathlib.Core.Option.{Option, none, some}
-use lib.Dec.{eqb}
 use Rattle.exports.specs.declared.FlatOption.{FlatOption}
 
-abbrev pub optionOf : FlatOption → Option ℕ
-optionOf r = cond (eqb (r .some) 1) (some (r .value)) none
+-- A number: 1 and the number. None: 0 and 0.
+abbrev pub flatOf : Option ℕ → FlatOption
+flatOf none = record { some = 0; value = 0 }
+flatOf (some n) = record { some = 1; value = n }

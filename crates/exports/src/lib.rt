@@ -4,7 +4,7 @@ use align::Aligned;
 ghost use mathlib.Core.Path.{_≡_};
 ghost use Rattle.align.specs.Align.{alignUp};
 ghost use Rattle.sort.specs.Sort.{Sorted};
-ghost use Rattle.exports.specs.Flat.{optionOf};
+ghost use Rattle.exports.specs.Flat.{flatOf};
 
 // A number or none: some is 1 or 0, and value is 0 where there is none.
 #[repr(C)]
@@ -15,7 +15,7 @@ pub struct FlatOption {
 
 #[no_mangle]
 pub extern "C" fn fundravai_align_up(value: u64, align: u64) -> FlatOption
-    ensures { λ r. ⌜ optionOf r ≡ alignUp value align ⌝ }
+    ensures { λ r. ⌜ r ≡ flatOf (alignUp value align) ⌝ }
 {
     let aligned = align::align_up(value, align);
     match aligned {

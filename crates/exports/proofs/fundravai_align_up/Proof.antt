@@ -2,6 +2,7 @@
 use mathlib.Core.Path.{sym, ap, _∙_}
 use borrow.Author.Needs.{needs}
 use Rattle.align.specs.Align.{answerOf}
+use Rattle.exports.specs.Flat.{flatOf}
 use Rattle.exports.proofs.fundravai_align_up.Statement.{statement}
 use Rattle.exports.proofs.fundravai_align_up.Tie as tie
 
@@ -15,10 +16,10 @@ enum-told : tie.Need-enum-told
 enum-told c = search needs
 
 returns : tie.Need-returns
-returns c = sym (ap answerOf (c .before .aligned .given .1)) ∙ c .before .before .before .align-up .ensures
+returns c = ap flatOf (sym (ap answerOf (c .before .aligned .given .1)) ∙ c .before .before .before .align-up .ensures)
 
 returns-2 : tie.Need-returns-2
-returns-2 c = sym (ap answerOf (c .enum-told .given .1)) ∙ c .before .before .align-up .ensures
+returns-2 c = ap flatOf (sym (ap answerOf (c .enum-told .given .1)) ∙ c .before .before .align-up .ensures)
 
 pub fundravai-align-up-spec : {M : Type 1} → statement M
 fundravai-align-up-spec =
