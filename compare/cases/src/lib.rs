@@ -1,6 +1,9 @@
 //! The inputs on which both sides are run, a module for each module of the Rust.
 
 pub mod align;
+pub mod flat;
+pub mod footprint;
+pub mod lent;
 pub mod random;
 pub mod shrink;
 pub mod sort;

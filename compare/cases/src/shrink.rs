@@ -1,5 +1,7 @@
 //! Makes an input on which the two sides differ as small as it can.
 
+use std::iter;
+
 /// Removes runs of `unit` numbers and lowers single numbers for as long as `differs` still says so.
 pub fn shrink(mut input: Vec<u64>, unit: usize, differs: impl Fn(&[u64]) -> bool) -> Vec<u64> {
     loop {
@@ -24,12 +26,15 @@ pub fn shrink(mut input: Vec<u64>, unit: usize, differs: impl Fn(&[u64]) -> bool
             }
         }
         for i in 0..input.len() {
-            for lower in [0, input[i] / 2, input[i].saturating_sub(1)] {
-                let mut smaller = input.clone();
-                smaller[i] = lower;
-                if lower < input[i] && differs(&smaller) {
+            // to 0, or down by powers of two, which keep an alignment
+            for step in iter::once(input[i]).chain((0..64).rev().map(|k| 1 << k)) {
+                while 0 < step && step <= input[i] {
+                    let mut smaller = input.clone();
+                    smaller[i] -= step;
+                    if !differs(&smaller) {
+                        break;
+                    }
                     input = smaller;
-                    break;
                 }
             }
         }

@@ -5,6 +5,22 @@
 #[path = "../../../../shared/docs/src/crates/store-io-core/src/align.rs"]
 pub mod align;
 
+pub mod codec;
+
+#[rustfmt::skip]
+#[path = "../../../../shared/docs/src/crates/store-io-format/src/meta.rs"]
+pub mod meta;
+
+#[rustfmt::skip]
+#[path = "../../../../shared/docs/src/crates/store-io-format/src/meta2.rs"]
+pub mod meta2;
+
+#[rustfmt::skip]
+#[path = "../../../../shared/docs/src/crates/store-io-format/src/footprint.rs"]
+pub mod footprint;
+
+pub mod header;
+
 /// How the project sorts pairs: `sort_unstable` of the standard library.
 pub fn sort_pairs(pairs: &mut [(u64, u64)]) {
     pairs.sort_unstable();

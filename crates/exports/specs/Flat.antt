@@ -1,9 +1,65 @@
--- An answer as two numbers.
+-- Answers as flat numbers, and records from them.
 use Prim.Native.Nat.{ℕ}
+use mathlib.Core.Bool.{Bool, cond}
+use mathlib.Core.List.{List}
 use mathlib.Core.Option.{Option, none, some}
+use mathlib.Core.Path.{_≡_}
+use lib.Dec.{eqb}
+use lib.ListN.{length}
+use Rattle.numbers.specs.Range.{Range}
+use Rattle.footprint.specs.declared.RegionKind.{RegionKind}
+use Rattle.footprint.specs.declared.RegionKind.the-variants.{Append, Page, Slot}
+use Rattle.footprint.specs.declared.Limits.{Limits}
+use Rattle.footprint.specs.declared.Entry.{Entry}
+use Rattle.footprint.specs.declared.Header.{Header}
+use Rattle.footprint.specs.Footprint.{Checked}
+use Rattle.footprint.specs.Runs.{Count}
 use Rattle.exports.specs.declared.FlatOption.{FlatOption}
+use Rattle.exports.specs.declared.FlatAnswer.{FlatAnswer}
 
 -- A number: 1 and the number. None: 0 and 0.
 abbrev pub flatOf : Option ℕ → FlatOption
 flatOf none = record { some = 0; value = 0 }
 flatOf (some n) = record { some = 1; value = n }
+
+abbrev pub countFrom : FlatAnswer → Count
+countFrom r = record { number = r .refusal; runs = r .value }
+
+-- The kind that has a number in the table; Append where none has.
+unfoldable pub kindOf : ℕ → RegionKind
+kindOf n = cond (eqb n 3) Slot (cond (eqb n 2) Page Append)
+
+abbrev pub limitsOf : ℕ → ℕ → ℕ → Limits
+limitsOf log2 table file = record { «log2_block» = log2; «table_end» = table; «file_len» = file }
+
+abbrev pub entryOf : ℕ → ℕ → ℕ → ℕ → ℕ → ℕ → ℕ → ℕ → ℕ → ℕ → Entry
+entryOf kind f count a b start end size cap seq =
+    record {
+      kind = kindOf kind;
+      flags = f;
+      «extent_count» = count;
+      «header_a» = a;
+      «header_b» = b;
+      «span_start» = start;
+      «span_end» = end;
+      «data_size» = size;
+      capacity = cap;
+      «footprint_seq» = seq;
+    }
+
+abbrev pub headerOf : ℕ → ℕ → ℕ → Bool → ℕ → ℕ → Header
+headerOf id kind f r log2 count =
+    record {
+      «region_id» = id;
+      kind = kindOf kind;
+      flags = f;
+      ready = r;
+      «log2_block» = log2;
+      «extent_count» = count;
+    }
+
+-- What `check_region` promises, of the part its length.
+pub record FlatChecked (lim : Limits) (id : ℕ) (e : Entry) (h : Header) (xs s₀ : List ℕ) (n refusal : ℕ) (held extra : Range) : Type 0 where
+  pub part : List ℕ
+  pub count : n ≡ length part
+  pub checked : Checked lim id e h xs s₀ part refusal held extra

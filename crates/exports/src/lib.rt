@@ -1,15 +1,30 @@
 // Flat functions for compare/, which links them as a static library. Nothing is decided here: each
 // calls a leaf, and its contract is the leaf's.
 use align::Aligned;
+use footprint::Entry;
+use footprint::Header;
+use footprint::Limits;
+use footprint::RegionKind;
+use footprint::Written;
 ghost use mathlib.Core.Path.{_≡_};
 ghost use Rattle.align.specs.Align.{alignUp};
 ghost use Rattle.sort.specs.Sort.{Sorted};
-ghost use Rattle.exports.specs.Flat.{flatOf};
+ghost use Rattle.numbers.specs.Range.{range};
+ghost use Rattle.footprint.specs.Footprint.{maxExtents};
+ghost use Rattle.footprint.specs.Runs.{Listed};
+ghost use Rattle.exports.specs.Flat.{flatOf, kindOf, limitsOf, entryOf, headerOf, countFrom, FlatChecked};
 
 // A number or none: some is 1 or 0, and value is 0 where there is none.
 #[repr(C)]
 pub struct FlatOption {
     pub some: u64,
+    pub value: u64,
+}
+
+// A refusal, 0 where there is none, and a value, 0 where there is a refusal.
+#[repr(C)]
+pub struct FlatAnswer {
+    pub refusal: u64,
     pub value: u64,
 }
 
@@ -29,4 +44,118 @@ pub extern "C" fn fundravai_sort_pairs(s: &mut [u64]) -> u64
     ensures { λ r. ⌜ Sorted (now (s .entry)) (now (s .exit)) r ⌝ }
 {
     sort::sort_pairs(s)
+}
+
+#[no_mangle]
+pub extern "C" fn fundravai_max_extents(log2: u8) -> usize
+    ensures { λ r. ⌜ r ≡ maxExtents log2 ⌝ }
+{
+    footprint::max_extents(log2)
+}
+
+// The kind that has a number in the table.
+fn kind_of(code: u8) -> RegionKind
+    ensures { λ r. ⌜ r ≡ kindOf code ⌝ }
+{
+    if code == 3 {
+        return RegionKind::Slot;
+    }
+    if code == 2 {
+        return RegionKind::Page;
+    }
+    RegionKind::Append
+}
+
+// The number of slots in the part that is handed back.
+#[no_mangle]
+pub extern "C" fn fundravai_check_region(
+    log2: u8,
+    table: u64,
+    file: u64,
+    id: u64,
+    kind: u8,
+    flags: u8,
+    count: u16,
+    a: u64,
+    b: u64,
+    start: u64,
+    end: u64,
+    size: u64,
+    capacity: u64,
+    seq: u64,
+    hid: u64,
+    hkind: u8,
+    hflags: u8,
+    ready: bool,
+    hlog2: u8,
+    hcount: u16,
+    extents: &[u64],
+    scratch: &mut [u64],
+    refusal: &mut u64,
+    offset: &mut u64,
+    len: &mut u64,
+) -> usize
+    ensures { λ r. ⌜ FlatChecked (limitsOf log2 table file) id (entryOf kind flags count a b start end size capacity seq) (headerOf hid hkind hflags ready hlog2 hcount) (now (extents .entry)) (now (scratch .entry)) r (now (refusal .exit)) (range (now (offset .entry)) (now (len .entry))) (range (now (offset .exit)) (now (len .exit))) ⌝ }
+{
+    let limits = Limits {
+        log2_block: log2,
+        table_end: table,
+        file_len: file,
+    };
+    let entry_kind = kind_of(kind);
+    let entry = Entry {
+        kind: entry_kind,
+        flags,
+        extent_count: count,
+        header_a: a,
+        header_b: b,
+        span_start: start,
+        span_end: end,
+        data_size: size,
+        capacity,
+        footprint_seq: seq,
+    };
+    let header_kind = kind_of(hkind);
+    let header = Header {
+        region_id: hid,
+        kind: header_kind,
+        flags: hflags,
+        ready,
+        log2_block: hlog2,
+        extent_count: hcount,
+    };
+    let part = footprint::check_region(
+        limits,
+        id,
+        entry,
+        header,
+        extents,
+        scratch,
+        refusal,
+        offset,
+        len,
+    );
+    part.len()
+}
+
+#[no_mangle]
+pub extern "C" fn fundravai_runs(
+    extents: &[u64],
+    starts: &mut [u64],
+    files: &mut [u64],
+    lens: &mut [u64],
+) -> FlatAnswer
+    ensures { λ r. ⌜ Listed (now (extents .entry)) (now (starts .entry)) (now (starts .exit)) (now (files .entry)) (now (files .exit)) (now (lens .entry)) (now (lens .exit)) (countFrom r) ⌝ }
+{
+    let written = footprint::runs(extents, starts, files, lens);
+    match written {
+        Written::Runs(n) => FlatAnswer {
+            refusal: 0,
+            value: n as u64,
+        },
+        Written::Refused(n) => FlatAnswer {
+            refusal: n,
+            value: 0,
+        },
+    }
 }

@@ -1,11 +1,16 @@
--- What holds of every element of a list or of some: of its parts and at each index; over any element type.
-use Prim.Native.Nat.{ℕ, zero, suc, _<_}
+-- What holds of every element of a list or of some: of its parts and at each index; what is written over a list's
+-- front. Over any element type.
+use Prim.Native.Nat.{ℕ, zero, suc, _+_, _-_, _≤_, _<_}
+use mathlib.Core.Bool.{Bool, true, false, _||_}
 use mathlib.Core.List.{List, [], _∷_, _++_}
 use mathlib.Core.Logic.{_⊎_, inl, inr, ⊎-elim}
+use mathlib.Core.Path.{_≡_, refl, ap, sym, _∙_}
 use native.Mathlib.Nat.{le-of-suc-le-suc, not-suc-le-zero}
 use native.Mathlib.Omega.{arith}
-use lib.ListN.{length, getD, take, drop}
-use Rattle.numbers.specs.Lists.{All, Any}
+use lib.ListN.{length, getD, take, drop, set, length-append, length-drop}
+use lib.Seq.{drop-cons, append-snoc, set-at}
+use Rattle.numbers.specs.Lists.{All, Any, any, written}
+use Rattle.numbers.proofs.Cases.{cases, clash}
 
 module _ {A : Type 0} (P : A → Type 0) where
   pub all-append : (xs ys : List A) → All P xs → All P ys → All P (xs ++ ys)
@@ -43,6 +48,10 @@ module _ {A : Type 0} (P : A → Type 0) where
   pub all-imp : (Q : A → Type 0) → ((x : A) → P x → Q x) → (l : List A) → All P l → All Q l
   all-imp Q f [] a = tt
   all-imp Q f (x ∷ xs) a = (f x (a .0), all-imp Q f xs (a .1))
+
+  pub all-both : (Q R : A → Type 0) → ((x : A) → P x → Q x → R x) → (l : List A) → All P l → All Q l → All R l
+  all-both Q R f [] a b = tt
+  all-both Q R f (x ∷ xs) a b = (f x (a .0) (b .0), all-both Q R f xs (a .1) (b .1))
 
   -- some element: of either part, at an index, and not where all are ruled out
   pub any-left : (xs ys : List A) → Any P xs → Any P (xs ++ ys)
@@ -82,3 +91,41 @@ module _ {A : Type 0} (P : A → Type 0) where
   all-none [] f a = a
   all-none (x ∷ xs) f (inl p) = f .0 p
   all-none (x ∷ xs) f (inr a) = all-none xs (f .1) a
+
+module _ {A : Type 0} (f : A → Bool) where
+  -- the test of some element says whether there is one
+  pub any-true : (l : List A) → any f l ≡ true → Any (λ (x : A). f x ≡ true) l
+  unfolding any
+  any-true [] e = clash {b = false} e refl
+  any-true (x ∷ xs) e = cases (f x) (λ t. inl t) (λ n. inr (any-true xs (sym (simp n) ∙ e)))
+
+  pub any-false : (l : List A) → any f l ≡ false → All (λ (x : A). f x ≡ false) l
+  unfolding any
+  any-false [] e = tt
+  any-false (x ∷ xs) e =
+      cases (f x) (λ t. clash {b = f x || any f xs} (simp t) e)
+      (λ n. (n, any-false xs (sym (simp n) ∙ e)))
+
+  pub of-any : (l : List A) → Any (λ (x : A). f x ≡ true) l → any f l ≡ true
+  unfolding any
+  of-any [] a = absurd a
+  of-any (x ∷ xs) (inl t) = simp t
+  of-any (x ∷ xs) (inr a) = cases (f x) (λ t. simp t) (λ n. simp n (of-any xs a))
+
+  pub of-none : (l : List A) → All (λ (x : A). f x ≡ false) l → any f l ≡ false
+  unfolding any
+  of-none [] a = refl
+  of-none (x ∷ xs) a = simp (a .0) (of-none xs (a .1))
+
+module _ {A : Type 0} where
+  pub written-length : (xs s : List A) → length xs ≤ length s → length (written xs s) ≡ length s
+  written-length xs s h = rw (length-append, length-drop) (omega arith)
+
+  -- one more, in the next slot
+  pub written-next : (xs s : List A) (k : ℕ) (x : A) → length xs ≡ k → k < length s → set (written xs s) k x ≡ written (xs ++ (x ∷ [])) s
+  written-next xs s k x e h =
+      let n : suc (length xs) ≡ length (xs ++ (x ∷ [])) = sym (length-append xs (x ∷ []) ∙ omega arith) in
+      ap (λ (t : List A). set (xs ++ t) k x) (drop-cons s (length xs) x (omega arith))
+      ∙ set-at xs (getD s (length xs) x) (drop (suc (length xs)) s) x k e
+      ∙ sym (append-snoc xs x (drop (suc (length xs)) s))
+      ∙ ap (λ (m : ℕ). (xs ++ (x ∷ [])) ++ drop m s) n

@@ -1,11 +1,13 @@
 -- Flat lists and their pairs: lengths, elements, stores and parts.
 use Prim.Native.Nat.{ℕ, zero, suc, _+_, _*_, _/_, _%_, _<_}
+use mathlib.Core.Bool.{true, false}
 use mathlib.Core.List.{List, [], _∷_, _++_}
 use mathlib.Core.Path.{_≡_, refl, ap}
 use native.Mathlib.Nat.{not-suc-le-zero}
 use native.Mathlib.Omega.{arith}
 use lib.ListN.{length, getD, take, drop, set}
-use Rattle.numbers.specs.Pairs.{pairs, flat}
+use borrow.Author.Tests.{eq-eqb, ne-eqb}
+use Rattle.numbers.specs.Pairs.{isOdd, pairs, flat}
 use Rattle.numbers.specs.Range.{Range, range, blank}
 
 two-suc : (i : ℕ) → 2 * suc i ≡ suc (suc (2 * i))
@@ -13,6 +15,14 @@ two-suc i = omega arith
 
 two-suc-one : (i : ℕ) → 2 * suc i + 1 ≡ suc (suc (2 * i + 1))
 two-suc-one i = omega arith
+
+-- odd or even, as the code tests it
+module _ (l : List ℕ) where
+  pub odd-list : (length l % 2 ≡ 0 → ⊥) → isOdd l ≡ true
+  odd-list d = let h : length l % 2 ≡ 1 = omega (arith, d) in eq-eqb _ _ h
+
+  pub even-list : length l % 2 ≡ 0 → isOdd l ≡ false
+  even-list e = ne-eqb (length l % 2) 1 (λ (h : length l % 2 ≡ 1). absurd (omega arith))
 
 pub length-pairs : (l : List ℕ) → length (pairs l) ≡ length l / 2
 unfolding pairs

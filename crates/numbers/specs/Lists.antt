@@ -1,6 +1,8 @@
--- What holds of every element of a list, and of some.
-use mathlib.Core.List.{List, [], _∷_}
+-- What holds of every element of a list, and of some; and a list written over the front of another.
+use mathlib.Core.Bool.{Bool, false, _||_}
+use mathlib.Core.List.{List, [], _∷_, _++_}
 use mathlib.Core.Logic.{_⊎_}
+use lib.ListN.{length, drop}
 
 abbrev pub All : {A : Type 0} → (A → Type 0) → List A → Type 0
 All P [] = Unit {0}
@@ -9,3 +11,12 @@ All P (x ∷ xs) = P x × All P xs
 abbrev pub Any : {A : Type 0} → (A → Type 0) → List A → Type 0
 Any P [] = ⊥
 Any P (x ∷ xs) = P x ⊎ Any P xs
+
+-- Some element passes a test; `any-true` and `any-false` (proofs/Lists) tie it to `Any` and `All`.
+unfoldable pub any : {A : Type 0} → (A → Bool) → List A → Bool
+any f [] = false
+any f (x ∷ xs) = f x || any f xs
+
+-- xs in the first slots of s: "slots past a written answer keep their content".
+abbrev pub written : {A : Type 0} → List A → List A → List A
+written xs s = xs ++ drop (length xs) s

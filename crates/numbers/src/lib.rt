@@ -1,6 +1,7 @@
-// What the language lacks and several crates want: a sum that stops, and the test for a power of two.
+// What the language lacks and several crates want: a sum that stops, one held against a limit, and the test for a power of two.
 ghost use mathlib.Core.Path.{_≡_};
 ghost use Prim.Native.Nat.{_+_};
+ghost use lib.Dec.{ltb};
 ghost use Rattle.numbers.specs.Sums.{stop};
 ghost use Rattle.numbers.specs.Powers.{isPowerOfTwo};
 
@@ -12,6 +13,16 @@ pub fn add_stop(a: u64, b: u64) -> u64
         return 0xffff_ffff_ffff_ffff;
     }
     a + b
+}
+
+// Whether a + b passes limit.
+pub fn passes(a: u64, b: u64, limit: u64) -> bool
+    ensures { λ r. ⌜ r ≡ ltb limit (a + b) ⌝ }
+{
+    if limit < a {
+        return true;
+    }
+    limit - a < b
 }
 
 // Whether n is a power of two: it is not 0, and has one bit alone.

@@ -1,7 +1,7 @@
 //! Runs both sides on the same inputs. Argument: a seed.
 
 use cases::random::{Random, SEED};
-use cases::{align, sort};
+use cases::{align, footprint, sort};
 use std::process::ExitCode;
 
 type Compare = fn(&mut Random) -> Result<usize, String>;
@@ -11,7 +11,11 @@ fn main() -> ExitCode {
         .nth(1)
         .map_or(SEED, |a| a.parse().expect("the seed is a number"));
     println!("seed {seed}");
-    let modules: [(&str, Compare); 2] = [("align", align::compare), ("sort", sort::compare)];
+    let modules: [(&str, Compare); 3] = [
+        ("align", align::compare),
+        ("sort", sort::compare),
+        ("footprint", footprint::compare),
+    ];
     for (name, compare) in modules {
         match compare(&mut Random::new(seed)) {
             Ok(cases) => println!("{name}: {cases} cases, no difference"),

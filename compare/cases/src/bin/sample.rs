@@ -1,13 +1,14 @@
 //! Prints the stored sample of the Rust's answers for the module that the argument names.
 
 use cases::random::{Random, SEED};
-use cases::{align, sort};
+use cases::{align, footprint, sort};
 
 fn main() {
     let mut random = Random::new(SEED);
     match std::env::args().nth(1).as_deref() {
         Some("align") => align::sample(&mut random),
         Some("sort") => sort::sample(&mut random),
+        Some("footprint") => footprint::sample(&mut random),
         other => panic!("no module {other:?}"),
     }
 }

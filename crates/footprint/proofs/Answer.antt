@@ -1,0 +1,202 @@
+-- What the check answers, from the tests that it makes and the scratch that it fills.
+use Prim.Native.Nat.{ℕ, suc, _+_, _-_, _*_, _%_, _^_, _≤_, _<_}
+use mathlib.Core.Bool.{Bool, true, false, not}
+use mathlib.Core.List.{List, [], _∷_, _++_, map}
+use mathlib.Core.Logic.{⊎-elim}
+use mathlib.Core.Path.{_≡_, refl, ap, sym, _∙_}
+use native.Mathlib.Omega.{arith}
+use lib.Dec.{ltb, eqb}
+use lib.ListN.{length, take, drop, getD, drop-of-length-le}
+use lib.Pow.{pow-pos}
+use lib.Seq.{drop-cons, length-take-le, take-at}
+use borrow.Author.Tests.{ne-eqb, eqb-true}
+use Rattle.numbers.specs.Range.{Range, range, blank}
+use Rattle.numbers.specs.Pairs.{pairs, flat}
+use Rattle.numbers.specs.Sums.{top, sum}
+use Rattle.numbers.specs.Lists.{All, written}
+use Rattle.numbers.proofs.Cases.{by-eq}
+use Rattle.numbers.proofs.Lists.{all-both}
+use Rattle.numbers.proofs.Pairs.{length-flat, pair-at, pair-in}
+use Rattle.sort.proofs.Laws.{all-sorted, sorted-ascending, sorted-length}
+use Rattle.footprint.specs.declared.Limits.{Limits}
+use Rattle.footprint.specs.declared.Entry.{Entry}
+use Rattle.footprint.specs.declared.Header.{Header}
+use Rattle.footprint.specs.declared.Verdict.the-variants.{Usable, Ahead, Refused}
+use Rattle.footprint.specs.Footprint.{Answer, answerOf, checkOf, Checked, kindCode, listsFail, logsFail, entryFails, countFails, committed, ranges, footprintOf, first, refuse, eachExtent, outside, overlaps, entryTests, headerTests, extentTests, overlapTests, refusalOf, scratchOf, Filled}
+use Rattle.footprint.specs.Inner.{beforeLast, neighboursMeet, LaidOut, Reported}
+use Rattle.footprint.proofs.Tests.{first-one, first-go, first-stop, first-low}
+use Rattle.footprint.proofs.Passed.{Passed, Inside, all-pass}
+use Rattle.footprint.proofs.Overlap.{Solid, neighbours-decide, overlaps-sorted}
+
+module _ (lim : Limits) (id : ℕ) (e : Entry) (h : Header) (xs : List ℕ) (places : ℕ) where
+  abbrev before : List ℕ
+  before = entryTests lim e h xs places ++ headerTests id e h ++ extentTests lim e (committed e xs)
+
+  -- a refusal before the last is the refusal, and is not 13
+  pub early : (beforeLast lim id e h xs places ≡ 0 → ⊥) → refusalOf lim id e h xs places ≡ beforeLast lim id e h xs places
+  unfolding refusalOf beforeLast
+  early d = first-stop before (overlapTests (ranges lim e xs)) d
+
+  pub late : beforeLast lim id e h xs places ≡ 0 → refusalOf lim id e h xs places ≡ refuse 13 (overlaps (ranges lim e xs))
+  unfolding refusalOf beforeLast
+  late z = first-go before (overlapTests (ranges lim e xs)) z ∙ first-one (refuse 13 (overlaps (ranges lim e xs)))
+
+  low : (n : ℕ) (b : Bool) → n < 13 → refuse n b < 13
+  low n true p = p
+  low n false p = omega arith
+
+  each-low : (s : ℕ) (ys : List Range) → eachExtent lim e s ys < 13
+  unfolding eachExtent
+  each-low s [] = omega arith
+  each-low s (y ∷ ys) = first-low 13 _ (omega arith) (low 11 (outside lim e y) (omega arith), (low 12 (ltb top (s + y .len)) (omega arith), (each-low (s + y .len) ys, tt)))
+
+  pub not-last : beforeLast lim id e h xs places < 13
+  unfolding beforeLast
+  not-last =
+      first-low 13 before (omega arith) (
+        low 1 (listsFail lim e h xs places) (omega arith),
+        (
+          low 2 (logsFail lim h) (omega arith),
+          (
+            low 4 (entryFails lim e xs) (omega arith),
+            (
+              low 5 (not (eqb (h .«region_id») id)) (omega arith),
+              (
+                low 6 (not (eqb (kindCode (h .kind)) (kindCode (e .kind)))) (omega arith),
+                (
+                  low 7 (not (eqb (h .flags) (e .flags))) (omega arith),
+                  (
+                    low 8 (not (h .ready)) (omega arith),
+                    (
+                      low 9 (countFails e h) (omega arith),
+                      (
+                        low 10 (not (eqb (e .«data_size» % 2 ^ (h .«log2_block»)) 0)) (omega arith),
+                        (
+                          each-low 0 (committed e xs),
+                          (low 12 (not (eqb (sum (map (λ (x : Range). x .len) (committed e xs))) (e .capacity))) (omega arith), tt),
+                        ),
+                      ),
+                    ),
+                  ),
+                ),
+              ),
+            ),
+          ),
+        ),
+      )
+
+module _ {lim : Limits} {e : Entry} {h : Header} {xs : List ℕ} {places : ℕ} (p : Passed lim e h xs places) where
+  -- what is laid out has bytes, and ends below 2^64
+  solid : e .«span_end» ≤ top → All Solid (ranges lim e xs)
+  solid t =
+      let a = p .entry .a in
+      let b = p .entry .b in
+      let k = pow-pos (lim .«log2_block») in (
+        record { some = k; ends = omega (arith, a .upto) },
+        (record { some = k; ends = omega (arith, b .upto) }, committed-solid),
+      )
+    where
+      committed-solid : All Solid (committed e xs)
+      committed-solid = all-both (Inside lim e) (λ (x : Range). 0 < x .len) Solid (λ x i s. record { some = s; ends = i .ends }) (committed e xs) (p .inside) (p .entry .some)
+
+  -- the neighbours in the sorted footprint decide whether it overlaps itself
+  pub decided : e .«span_end» ≤ top → neighboursMeet (footprintOf lim e xs) ≡ overlaps (ranges lim e xs)
+  decided t =
+      neighbours-decide (footprintOf lim e xs) (sorted-ascending (ranges lim e xs)) (all-sorted Solid (ranges lim e xs) (solid t))
+      ∙ overlaps-sorted (ranges lim e xs)
+
+  pub all-listed : e .«extent_count» ≤ length (pairs xs)
+  all-listed = ⊎-elim (λ c. omega (arith, c, p .lists .listed)) (λ c. omega (arith, c, p .lists .listed)) (p .count)
+
+  pub footprint-length : length (flat (footprintOf lim e xs)) ≡ 2 * (e .«extent_count» + 2)
+  footprint-length =
+      let a = length-flat (footprintOf lim e xs) in
+      let b = sorted-length (ranges lim e xs) in
+      let c = length-take-le (e .«extent_count») (pairs xs) all-listed in
+      omega arith
+
+  -- the header lists no more than the entry, or one more
+  pub no-extra : h .«extent_count» ≤ e .«extent_count» → drop (e .«extent_count») (pairs xs) ≡ []
+  no-extra l = drop-of-length-le (pairs xs) {i = e .«extent_count»} (omega (arith, p .lists .listed))
+
+  pub extra-in : e .«extent_count» < h .«extent_count» → 2 * e .«extent_count» + 1 < length xs
+  extra-in l = pair-in xs (e .«extent_count») (omega (arith, p .lists .listed))
+
+  pub one-extra : e .«extent_count» < h .«extent_count» → drop (e .«extent_count») (pairs xs) ≡ range (getD xs (2 * e .«extent_count») 0) (getD xs (2 * e .«extent_count» + 1) 0) ∷ []
+  one-extra l =
+      let n = e .«extent_count» in
+      let c : h .«extent_count» ≡ n + 1 = ⊎-elim (λ z. absurd (omega arith)) (λ z. z) (p .count) in
+      let i = p .lists .listed in
+      drop-cons (pairs xs) n blank (omega arith) ∙ rw (pair-at xs n (extra-in l), drop-of-length-le (pairs xs) {i = suc n} (omega arith))
+
+-- ---- the four answers
+
+module _ (lim : Limits) (id : ℕ) (e : Entry) (h : Header) (xs s : List ℕ) where
+  pub refused-early : {r : ℕ} → r ≡ beforeLast lim id e h xs (length s) → (r ≡ 0 → ⊥) → Filled lim id e h xs s s (answerOf (Refused r))
+  refused-early {r} b d =
+      let n : refusalOf lim id e h xs (length s) ≡ r = early lim id e h xs (length s) (λ z. d (b ∙ z)) ∙ sym b in
+      let l = not-last lim id e h xs (length s) in
+      let f : r ≡ 13 → ⊥ = λ z. absurd (omega arith) in
+      record { answer = simp (n, ne-eqb _ _ d); slots = simp (n, ne-eqb _ _ d, ne-eqb _ _ f) }
+
+  module _ {r : ℕ} (b : r ≡ beforeLast lim id e h xs (length s)) (z : r ≡ 0) (t : e .«span_end» ≤ top) {m : Bool} {ys : List ℕ} (o : LaidOut lim e xs ys m) where
+    pub passed : Passed lim e h xs (length s)
+    passed = all-pass lim id e h xs (length s) (sym b ∙ z)
+
+    number : refusalOf lim id e h xs (length s) ≡ refuse 13 m
+    number = late lim id e h xs (length s) (sym b ∙ z) ∙ ap (refuse 13) (sym (o .answer ∙ decided passed t))
+
+    kept : ys ++ drop (2 * e .«extent_count» + 4 - 0) s ≡ written (flat (footprintOf lim e xs)) s
+    kept =
+        let l = footprint-length passed in
+        let k : 2 * e .«extent_count» + 4 - 0 ≡ length (flat (footprintOf lim e xs)) = omega arith in
+        rw (o .slots, k)
+
+    pub refused-last : m ≡ true → Filled lim id e h xs s (ys ++ drop (2 * e .«extent_count» + 4 - 0) s) (answerOf (Refused 13))
+    refused-last w =
+        let n : refusalOf lim id e h xs (length s) ≡ 13 = number ∙ ap (refuse 13) w in
+        record { answer = simp n; slots = kept ∙ simp n }
+
+    module _ (w : m ≡ false) where
+      accepted : refusalOf lim id e h xs (length s) ≡ 0
+      accepted = number ∙ ap (refuse 13) w
+
+      pub usable : h .«extent_count» ≤ e .«extent_count» → Filled lim id e h xs s (ys ++ drop (2 * e .«extent_count» + 4 - 0) s) (answerOf Usable)
+      usable l = record { answer = simp (accepted, no-extra passed l); slots = kept ∙ simp accepted }
+
+      pub ahead : e .«extent_count» < h .«extent_count» → Filled lim id e h xs s (ys ++ drop (2 * e .«extent_count» + 4 - 0) s) (answerOf (Ahead (getD xs (2 * e .«extent_count») 0) (getD xs (2 * e .«extent_count» + 1) 0)))
+      ahead l = record { answer = simp (accepted, one-extra passed l); slots = kept ∙ simp accepted }
+
+-- ---- the part that is handed back
+
+module _ (lim : Limits) (id : ℕ) (e : Entry) (h : Header) (xs s : List ℕ) where
+  pub accepted-passed : refusalOf lim id e h xs (length s) ≡ 0 → Passed lim e h xs (length s)
+  accepted-passed z =
+      by-eq (beforeLast lim id e h xs (length s)) 0 (all-pass lim id e h xs (length s))
+      (λ d. absurd (d (sym (early lim id e h xs (length s) d) ∙ z)))
+
+  module _ {a : Answer} {t : List ℕ} (f : Filled lim id e h xs s t a) {n : ℕ} {held extra : Range} {m : Bool} (g : Reported a n held extra m) where
+    number-told : n ≡ refusalOf lim id e h xs (length s)
+    number-told = g .number ∙ ap (λ (a : Answer). a .number) (f .answer)
+
+    extra-told : extra ≡ getD (checkOf lim id e h xs (length s) .extra) 0 held
+    extra-told = g .handed ∙ ap (λ (a : Answer). getD (a .extra) 0 held) (f .answer)
+
+    told : m ≡ eqb (refusalOf lim id e h xs (length s)) 0
+    told = g .accepts ∙ ap (λ (a : Answer). eqb (a .number) 0) (f .answer)
+
+    pub room : m ≡ true → 2 * e .«extent_count» + 4 ≤ length s
+    room y = let p = accepted-passed (eqb-true _ _ (sym told ∙ y)) .lists .room in omega arith
+
+    pub part : m ≡ true → Checked lim id e h xs s (take (2 * e .«extent_count» + 4 - 0) t) n held extra
+    part y =
+        let z = eqb-true _ _ (sym told ∙ y) in
+        let l = footprint-length (accepted-passed z) in
+        record {
+          number = number-told;
+          filled = rw (f .slots, z) (take-at (flat (footprintOf lim e xs)) (drop (length (flat (footprintOf lim e xs))) s) (2 * e .«extent_count» + 4 - 0) (omega arith));
+          handed = extra-told;
+        }
+
+    pub no-part : m ≡ false → Checked lim id e h xs s (take (0 - 0) t) n held extra
+    no-part y = record { number = number-told; filled = simp (sym told ∙ y); handed = extra-told }

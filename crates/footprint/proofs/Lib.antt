@@ -1,0 +1,7 @@
+pub mod Tests
+pub mod Scan
+pub mod Joining
+pub mod Overlap
+pub mod Laying
+pub mod Passed
+pub mod Answer

@@ -1,0 +1,48 @@
+-- What the steps of the check and of `runs` do; no public call promises anything by these.
+use Prim.Native.Nat.{ℕ, _+_, _-_, _≤_, _<_}
+use mathlib.Core.Bool.{Bool, false, _||_}
+use mathlib.Core.List.{List, [], _∷_, _++_, map}
+use mathlib.Core.Path.{_≡_}
+use lib.Dec.{ltb, eqb}
+use lib.ListN.{length, getD, drop}
+use Rattle.numbers.specs.Range.{Range, range, blank}
+use Rattle.numbers.specs.Pairs.{flat}
+use Rattle.numbers.specs.Lists.{written}
+use Rattle.footprint.specs.declared.Limits.{Limits}
+use Rattle.footprint.specs.declared.Entry.{Entry}
+use Rattle.footprint.specs.declared.Header.{Header}
+use Rattle.footprint.specs.Footprint.{Answer, committed, footprintOf, first, entryTests, headerTests, extentTests}
+use Rattle.footprint.specs.Runs.{Run, notEmpty, joinedTo, joined, runsOf}
+
+-- Every refusal but 13.
+unfoldable pub beforeLast : Limits → ℕ → Entry → Header → List ℕ → ℕ → ℕ
+beforeLast lim id e h xs places = first (entryTests lim e h xs places ++ headerTests id e h ++ extentTests lim e (committed e xs))
+
+-- Some range of a list in order begins before the one in front of it ends.
+unfoldable pub neighboursMeet : List Range → Bool
+neighboursMeet [] = false
+neighboursMeet (r ∷ []) = false
+neighboursMeet (r ∷ q ∷ rs) = ltb (q .offset - r .offset) (r .len) || neighboursMeet (q ∷ rs)
+
+pub record LaidOut (lim : Limits) (e : Entry) (xs s : List ℕ) (meet : Bool) : Type 0 where
+  pub slots : s ≡ flat (footprintOf lim e xs)
+  pub answer : meet ≡ neighboursMeet (footprintOf lim e xs)
+
+-- An answer in lent numbers, and whether it accepts.
+pub record Reported (a : Answer) (refusal : ℕ) (held extra : Range) (usable : Bool) : Type 0 where
+  pub number : refusal ≡ a .number
+  pub handed : extra ≡ getD (a .extra) 0 held
+  pub accepts : usable ≡ eqb (a .number) 0
+
+-- The run that begins with the extent i has length len, and the extent `next` is the first behind it.
+pub record Reached (xs : List Range) (i len next : ℕ) : Type 0 where
+  pub behind : i < next
+  pub inside : next ≤ length xs
+  pub goes : joinedTo (getD xs i blank) (notEmpty (drop (i + 1) xs)) ≡ range (getD xs i blank .offset) len ∷ joined (notEmpty (drop next xs))
+
+-- k runs stand in the first slots of three lists.
+pub record Joined (xs : List Range) (s₀ s f₀ f l₀ l : List ℕ) (k : ℕ) : Type 0 where
+  pub count : k ≡ length (runsOf xs)
+  pub starts : s ≡ written (map (λ (r : Run). r .start) (runsOf xs)) s₀
+  pub files : f ≡ written (map (λ (r : Run). r .file) (runsOf xs)) f₀
+  pub lens : l ≡ written (map (λ (r : Run). r .len) (runsOf xs)) l₀

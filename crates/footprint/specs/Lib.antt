@@ -1,0 +1,3 @@
+pub mod Footprint
+pub mod Runs
+pub mod Inner
