@@ -6,16 +6,16 @@ use mathlib.Core.Option.{Option, none, some}
 use mathlib.Core.Path.{_≡_}
 use lib.Dec.{eqb}
 use lib.ListN.{length}
-use Rattle.numbers.specs.Range.{Range}
-use Rattle.footprint.specs.declared.RegionKind.{RegionKind}
-use Rattle.footprint.specs.declared.RegionKind.the-variants.{Append, Page, Slot}
-use Rattle.footprint.specs.declared.Limits.{Limits}
-use Rattle.footprint.specs.declared.Entry.{Entry}
-use Rattle.footprint.specs.declared.Header.{Header}
+use Rattle.exports.specs.declared.FlatAnswer.{FlatAnswer}
+use Rattle.exports.specs.declared.FlatOption.{FlatOption}
 use Rattle.footprint.specs.Footprint.{Checked}
 use Rattle.footprint.specs.Runs.{Count}
-use Rattle.exports.specs.declared.FlatOption.{FlatOption}
-use Rattle.exports.specs.declared.FlatAnswer.{FlatAnswer}
+use Rattle.footprint.specs.declared.Entry.{Entry}
+use Rattle.footprint.specs.declared.Header.{Header}
+use Rattle.footprint.specs.declared.Limits.{Limits}
+use Rattle.footprint.specs.declared.RegionKind.{RegionKind}
+use Rattle.footprint.specs.declared.RegionKind.the-variants.{Append, Page, Slot}
+use Rattle.numbers.specs.Range.{Range}
 
 -- A number: 1 and the number. None: 0 and 0.
 abbrev pub flatOf : Option ℕ → FlatOption
@@ -59,7 +59,7 @@ headerOf id kind f r log2 count =
     }
 
 -- What `check_region` promises, of the part its length.
-pub record FlatChecked (lim : Limits) (id : ℕ) (e : Entry) (h : Header) (xs s₀ : List ℕ) (n refusal : ℕ) (held extra : Range) : Type 0 where
+pub record FlatChecked (lim : Limits) (id : ℕ) (e : Entry) (h : Header) (xs s₀ : List ℕ) (n refusal : ℕ) (old extra : Range) : Type 0 where
   pub part : List ℕ
   pub count : n ≡ length part
-  pub checked : Checked lim id e h xs s₀ part refusal held extra
+  pub checked : Checked lim id e h xs s₀ part refusal old extra

@@ -5,7 +5,7 @@ use footprint::Entry;
 use footprint::Header;
 use footprint::Limits;
 use footprint::RegionKind;
-use footprint::Written;
+use footprint::RunCount;
 ghost use mathlib.Core.Path.{_≡_};
 ghost use Rattle.align.specs.Align.{alignUp};
 ghost use Rattle.sort.specs.Sort.{Sorted};
@@ -147,13 +147,13 @@ pub extern "C" fn fundravai_runs(
 ) -> FlatAnswer
     ensures { λ r. ⌜ Listed (now (extents .entry)) (now (starts .entry)) (now (starts .exit)) (now (files .entry)) (now (files .exit)) (now (lens .entry)) (now (lens .exit)) (countFrom r) ⌝ }
 {
-    let written = footprint::runs(extents, starts, files, lens);
-    match written {
-        Written::Runs(n) => FlatAnswer {
+    let count = footprint::runs(extents, starts, files, lens);
+    match count {
+        RunCount::Runs(n) => FlatAnswer {
             refusal: 0,
             value: n as u64,
         },
-        Written::Refused(n) => FlatAnswer {
+        RunCount::Refused(n) => FlatAnswer {
             refusal: n,
             value: 0,
         },

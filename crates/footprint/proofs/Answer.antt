@@ -1,32 +1,32 @@
 -- What the check answers, from the tests that it makes and the scratch that it fills.
 use Prim.Native.Nat.{ℕ, suc, _+_, _-_, _*_, _%_, _^_, _≤_, _<_}
 use mathlib.Core.Bool.{Bool, true, false, not}
-use mathlib.Core.List.{List, [], _∷_, _++_, map}
+use mathlib.Core.List.{List, [], _∷_, _++_}
 use mathlib.Core.Logic.{⊎-elim}
-use mathlib.Core.Path.{_≡_, refl, ap, sym, _∙_}
+use mathlib.Core.Path.{_≡_, ap, sym, _∙_}
 use native.Mathlib.Omega.{arith}
 use lib.Dec.{ltb, eqb}
 use lib.ListN.{length, take, drop, getD, drop-of-length-le}
 use lib.Pow.{pow-pos}
 use lib.Seq.{drop-cons, length-take-le, take-at}
 use borrow.Author.Tests.{ne-eqb, eqb-true}
-use Rattle.numbers.specs.Range.{Range, range, blank}
-use Rattle.numbers.specs.Pairs.{pairs, flat}
-use Rattle.numbers.specs.Sums.{top, sum}
+use Rattle.footprint.specs.Footprint.{Answer, answerOf, checkOf, Checked, kindCode, listsFail, logsFail, entryFails, countFails, committed, ranges, footprintOf, refuse, eachExtent, outside, overlaps, entryTests, headerTests, extentTests, overlapTests, refusalOf, Filled}
+use Rattle.footprint.specs.Inner.{beforeLast, neighboursMeet, LaidOut, Reported}
+use Rattle.footprint.specs.declared.Entry.{Entry}
+use Rattle.footprint.specs.declared.Header.{Header}
+use Rattle.footprint.specs.declared.Limits.{Limits}
+use Rattle.footprint.specs.declared.Verdict.the-variants.{Usable, Ahead, Refused}
 use Rattle.numbers.specs.Lists.{All, written}
+use Rattle.numbers.specs.Pairs.{pairs, flat}
+use Rattle.numbers.specs.Range.{Range, range, blank, total}
+use Rattle.numbers.specs.Sums.{top}
+use Rattle.footprint.proofs.Overlap.{Solid, neighbours-decide, overlaps-sorted}
+use Rattle.footprint.proofs.Passed.{Passed, Inside, all-pass}
+use Rattle.footprint.proofs.Tests.{first-one, first-go, first-stop, first-low, refuse-none}
 use Rattle.numbers.proofs.Cases.{by-eq}
 use Rattle.numbers.proofs.Lists.{all-both}
 use Rattle.numbers.proofs.Pairs.{length-flat, pair-at, pair-in}
 use Rattle.sort.proofs.Laws.{all-sorted, sorted-ascending, sorted-length}
-use Rattle.footprint.specs.declared.Limits.{Limits}
-use Rattle.footprint.specs.declared.Entry.{Entry}
-use Rattle.footprint.specs.declared.Header.{Header}
-use Rattle.footprint.specs.declared.Verdict.the-variants.{Usable, Ahead, Refused}
-use Rattle.footprint.specs.Footprint.{Answer, answerOf, checkOf, Checked, kindCode, listsFail, logsFail, entryFails, countFails, committed, ranges, footprintOf, first, refuse, eachExtent, outside, overlaps, entryTests, headerTests, extentTests, overlapTests, refusalOf, scratchOf, Filled}
-use Rattle.footprint.specs.Inner.{beforeLast, neighboursMeet, LaidOut, Reported}
-use Rattle.footprint.proofs.Tests.{first-one, first-go, first-stop, first-low}
-use Rattle.footprint.proofs.Passed.{Passed, Inside, all-pass}
-use Rattle.footprint.proofs.Overlap.{Solid, neighbours-decide, overlaps-sorted}
 
 module _ (lim : Limits) (id : ℕ) (e : Entry) (h : Header) (xs : List ℕ) (places : ℕ) where
   abbrev before : List ℕ
@@ -73,7 +73,7 @@ module _ (lim : Limits) (id : ℕ) (e : Entry) (h : Header) (xs : List ℕ) (pla
                         low 10 (not (eqb (e .«data_size» % 2 ^ (h .«log2_block»)) 0)) (omega arith),
                         (
                           each-low 0 (committed e xs),
-                          (low 12 (not (eqb (sum (map (λ (x : Range). x .len) (committed e xs))) (e .capacity))) (omega arith), tt),
+                          (low 12 (not (eqb (total (committed e xs)) (e .capacity))) (omega arith), tt),
                         ),
                       ),
                     ),
@@ -84,6 +84,16 @@ module _ (lim : Limits) (id : ℕ) (e : Entry) (h : Header) (xs : List ℕ) (pla
           ),
         ),
       )
+
+  -- of an accepted region no test failed
+  pub none-before : refusalOf lim id e h xs places ≡ 0 → beforeLast lim id e h xs places ≡ 0
+  none-before z = by-eq (beforeLast lim id e h xs places) 0 (λ n. n) (λ d. absurd (d (sym (early d) ∙ z)))
+
+  pub accepted-passed : refusalOf lim id e h xs places ≡ 0 → Passed lim e h xs places
+  accepted-passed z = all-pass lim id e h xs places (none-before z)
+
+  pub accepted-apart : refusalOf lim id e h xs places ≡ 0 → overlaps (ranges lim e xs) ≡ false
+  accepted-apart z = refuse-none 13 (overlaps (ranges lim e xs)) (omega arith) (sym (late (none-before z)) ∙ z)
 
 module _ {lim : Limits} {e : Entry} {h : Header} {xs : List ℕ} {places : ℕ} (p : Passed lim e h xs places) where
   -- what is laid out has bytes, and ends below 2^64
@@ -170,33 +180,28 @@ module _ (lim : Limits) (id : ℕ) (e : Entry) (h : Header) (xs s : List ℕ) wh
 -- ---- the part that is handed back
 
 module _ (lim : Limits) (id : ℕ) (e : Entry) (h : Header) (xs s : List ℕ) where
-  pub accepted-passed : refusalOf lim id e h xs (length s) ≡ 0 → Passed lim e h xs (length s)
-  accepted-passed z =
-      by-eq (beforeLast lim id e h xs (length s)) 0 (all-pass lim id e h xs (length s))
-      (λ d. absurd (d (sym (early lim id e h xs (length s) d) ∙ z)))
-
-  module _ {a : Answer} {t : List ℕ} (f : Filled lim id e h xs s t a) {n : ℕ} {held extra : Range} {m : Bool} (g : Reported a n held extra m) where
+  module _ {a : Answer} {t : List ℕ} (f : Filled lim id e h xs s t a) {n : ℕ} {old extra : Range} {m : Bool} (g : Reported a n old extra m) where
     number-told : n ≡ refusalOf lim id e h xs (length s)
     number-told = g .number ∙ ap (λ (a : Answer). a .number) (f .answer)
 
-    extra-told : extra ≡ getD (checkOf lim id e h xs (length s) .extra) 0 held
-    extra-told = g .handed ∙ ap (λ (a : Answer). getD (a .extra) 0 held) (f .answer)
+    extra-told : extra ≡ getD (checkOf lim id e h xs (length s) .extra) 0 old
+    extra-told = g .handed ∙ ap (λ (a : Answer). getD (a .extra) 0 old) (f .answer)
 
     told : m ≡ eqb (refusalOf lim id e h xs (length s)) 0
     told = g .accepts ∙ ap (λ (a : Answer). eqb (a .number) 0) (f .answer)
 
     pub room : m ≡ true → 2 * e .«extent_count» + 4 ≤ length s
-    room y = let p = accepted-passed (eqb-true _ _ (sym told ∙ y)) .lists .room in omega arith
+    room y = let p = accepted-passed lim id e h xs (length s) (eqb-true _ _ (sym told ∙ y)) .lists .room in omega arith
 
-    pub part : m ≡ true → Checked lim id e h xs s (take (2 * e .«extent_count» + 4 - 0) t) n held extra
+    pub part : m ≡ true → Checked lim id e h xs s (take (2 * e .«extent_count» + 4 - 0) t) n old extra
     part y =
         let z = eqb-true _ _ (sym told ∙ y) in
-        let l = footprint-length (accepted-passed z) in
+        let l = footprint-length (accepted-passed lim id e h xs (length s) z) in
         record {
           number = number-told;
           filled = rw (f .slots, z) (take-at (flat (footprintOf lim e xs)) (drop (length (flat (footprintOf lim e xs))) s) (2 * e .«extent_count» + 4 - 0) (omega arith));
           handed = extra-told;
         }
 
-    pub no-part : m ≡ false → Checked lim id e h xs s (take (0 - 0) t) n held extra
+    pub no-part : m ≡ false → Checked lim id e h xs s (take (0 - 0) t) n old extra
     no-part y = record { number = number-told; filled = simp (sym told ∙ y); handed = extra-told }

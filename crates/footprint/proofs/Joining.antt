@@ -1,24 +1,24 @@
 -- The two loops of `runs`: one goes along a run, the other from run to run.
 use Prim.Native.Nat.{ℕ, suc, _+_, _*_, _/_, _≤_, _<_}
 use mathlib.Core.Bool.{true, false, and-false}
-use lib.Dec.{leb}
 use mathlib.Core.List.{List, [], _∷_, _++_, map, map-append, append-nil}
 use mathlib.Core.Path.{_≡_, refl, ap, sym, subst, _∙_}
 use native.Mathlib.Omega.{arith}
+use lib.Dec.{leb}
 use lib.ListN.{length, getD, drop, set, length-append, length-map, drop-of-length-le}
 use lib.Seq.{drop-cons, append-snoc}
 use borrow.Author.Tests.{eq-eqb, ne-eqb, leb-true}
-use Rattle.numbers.specs.Range.{Range, range, blank}
-use Rattle.numbers.specs.Pairs.{pairs}
-use Rattle.numbers.specs.Sums.{top, stop}
-use Rattle.numbers.specs.Lists.{written}
-use Rattle.numbers.proofs.Pairs.{length-pairs, pair-at, pair-in}
-use Rattle.numbers.proofs.Lists.{written-length, written-next}
-use Rattle.numbers.proofs.Sums.{stop-add}
-use Rattle.numbers.proofs.Cases.{cases, clash}
-use Rattle.footprint.specs.Runs.{Run, run, notEmpty, joins, joinedTo, joined, runsFrom, runsOf, runsFail, Count, countOf, Listed}
-use Rattle.footprint.specs.declared.Written.the-variants.{Runs, Refused}
 use Rattle.footprint.specs.Inner.{Reached, Joined}
+use Rattle.footprint.specs.Runs.{Run, run, notEmpty, joins, joinedTo, joined, runsFrom, runsOf, runsFail, countOf, Listed}
+use Rattle.footprint.specs.declared.RunCount.the-variants.{Runs, Refused}
+use Rattle.numbers.specs.Lists.{written}
+use Rattle.numbers.specs.Pairs.{pairs}
+use Rattle.numbers.specs.Range.{Range, range, blank}
+use Rattle.numbers.specs.Sums.{top, stop}
+use Rattle.numbers.proofs.Cases.{cases, clash}
+use Rattle.numbers.proofs.Lists.{written-length, written-next}
+use Rattle.numbers.proofs.Pairs.{length-pairs, pair-at, pair-in}
+use Rattle.numbers.proofs.Sums.{stop-add}
 
 abbrev extent : List ℕ → ℕ → Range
 extent xs i = range (getD xs (2 * i) 0) (getD xs (2 * i + 1) 0)

@@ -1,6 +1,6 @@
 -- The footprint in scratch: the loop that copies the extents, and the one that looks for neighbours that meet.
 use Prim.Native.Nat.{ℕ, zero, suc, _+_, _-_, _*_, _/_, _≤_, _<_}
-use mathlib.Core.Bool.{true, false, _||_}
+use mathlib.Core.Bool.{false, _||_}
 use mathlib.Core.List.{List, [], _∷_, _++_, append-nil}
 use mathlib.Core.Path.{_≡_, refl, ap, sym, _∙_}
 use native.Mathlib.Nat.{le-of-suc-le-suc}
@@ -8,16 +8,16 @@ use native.Mathlib.Omega.{arith}
 use lib.Dec.{ltb}
 use lib.ListN.{length, getD, take, drop, set, length-append, length-take, length-set, length-drop, drop-of-length-le}
 use lib.Seq.{drop-cons, paste, paste-zero, paste-suc, length-paste}
-use Rattle.numbers.specs.Range.{Range, range, blank}
-use Rattle.numbers.specs.Pairs.{isOdd, pairs, flat}
-use Rattle.numbers.specs.Order.{InOrder}
-use Rattle.numbers.proofs.Order.{in-offset}
-use Rattle.numbers.proofs.Pairs.{length-pairs, pair-at, pair-in, pairs-take, even-list}
-use Rattle.sort.specs.Sort.{Ascending, Sorted}
-use Rattle.footprint.specs.declared.Limits.{Limits}
-use Rattle.footprint.specs.declared.Entry.{Entry}
 use Rattle.footprint.specs.Footprint.{blockOf, ranges, footprintOf}
 use Rattle.footprint.specs.Inner.{neighboursMeet}
+use Rattle.footprint.specs.declared.Entry.{Entry}
+use Rattle.footprint.specs.declared.Limits.{Limits}
+use Rattle.numbers.specs.Order.{InOrder}
+use Rattle.numbers.specs.Pairs.{isOdd, pairs, flat}
+use Rattle.numbers.specs.Range.{Range, range, blank}
+use Rattle.sort.specs.Sort.{Ascending, Sorted}
+use Rattle.numbers.proofs.Order.{in-offset}
+use Rattle.numbers.proofs.Pairs.{length-pairs, pair-at, pair-in, pairs-take, even-list}
 
 -- i numbers are copied behind the first four of s
 pub record Copied (xs s₀ : List ℕ) (n : ℕ) (s : List ℕ) (i : ℕ) : Type 0 where

@@ -5,3 +5,5 @@ pub mod Overlap
 pub mod Laying
 pub mod Passed
 pub mod Answer
+pub mod Positions
+pub mod Accepted

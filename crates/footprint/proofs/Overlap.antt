@@ -1,25 +1,24 @@
 -- The overlap test: what `overlaps` says of the bytes, and that on a sorted list the neighbours decide.
-use Prim.Native.Nat.{ℕ, zero, suc, _+_, _-_, _≤_, _<_, min, max}
+use Prim.Native.Nat.{ℕ, zero, suc, _+_, _-_, _≤_, _<_}
 use mathlib.Core.Bool.{Bool, true, false, _||_, or-true}
 use mathlib.Core.List.{List, [], _∷_}
-use mathlib.Core.Logic.{_⊎_, inl, inr, ⊎-elim}
 use mathlib.Core.Path.{_≡_, refl, ap, sym, _∙_}
 use native.Mathlib.Nat.{le-of-suc-le-suc, not-suc-le-zero}
 use native.Mathlib.Omega.{arith}
 use lib.Dec.{ltb}
 use lib.ListN.{length, getD}
-use borrow.Author.Tests.{lt-ltb, le-ltb, ltb-true, ltb-false}
-use Rattle.numbers.specs.Range.{Range, endOf, Has, Meet, meets, blank}
+use borrow.Author.Tests.{ltb-true, ltb-false}
+use Rattle.footprint.specs.Footprint.{overlaps}
+use Rattle.footprint.specs.Inner.{neighboursMeet}
+use Rattle.numbers.specs.Lists.{All, any}
 use Rattle.numbers.specs.Order.{precedes, InOrder}
-use Rattle.numbers.specs.Lists.{All, Any, any}
+use Rattle.numbers.specs.Range.{Range, endOf, Meet, meets, blank}
 use Rattle.numbers.specs.Sums.{top}
+use Rattle.sort.specs.Sort.{insert, sorted, Ascending}
 use Rattle.numbers.proofs.Cases.{cases, clash, or-false}
 use Rattle.numbers.proofs.Lists.{all-at, all-imp, any-at, any-true, any-false, of-none}
 use Rattle.numbers.proofs.Order.{in-offset}
 use Rattle.numbers.proofs.Ranges.{end-exact, apart, meets-true, meet-true, meets-false, meets-comm}
-use Rattle.sort.specs.Sort.{insert, sorted, Ascending}
-use Rattle.footprint.specs.Footprint.{overlaps}
-use Rattle.footprint.specs.Inner.{neighboursMeet}
 
 -- two ranges of the list, at different places, that meet
 pub record TwoMeet (l : List Range) : Type 0 where

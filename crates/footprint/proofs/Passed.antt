@@ -1,25 +1,27 @@
 -- What it means that a test of the check did not fail.
-use Prim.Native.Nat.{ℕ, _+_, _*_, _%_, _^_, _≤_, _<_}
-use mathlib.Core.Bool.{Bool, true, false, _||_, _&&_, not}
-use mathlib.Core.List.{List, [], _∷_, map}
+use Prim.Native.Nat.{ℕ, _+_, _*_, _%_, _≤_, _<_}
+use mathlib.Core.Bool.{Bool, true, false, _&&_, not}
+use mathlib.Core.List.{List, [], _∷_}
 use mathlib.Core.Logic.{_⊎_, inl, inr, ⊎-elim}
-use mathlib.Core.Path.{_≡_, refl, sym, _∙_}
+use mathlib.Core.Path.{_≡_, refl}
 use native.Mathlib.Omega.{arith}
-use lib.Dec.{ltb, eqb}
+use lib.Dec.{eqb}
 use lib.ListN.{length}
-use borrow.Author.Tests.{ltb-true, ltb-false, eqb-true, eqb-false, not-true, not-false}
-use Rattle.numbers.specs.Range.{Range}
-use Rattle.numbers.specs.Pairs.{isOdd, pairs}
-use Rattle.numbers.specs.Sums.{top, sum}
-use Rattle.numbers.specs.Lists.{All}
-use Rattle.numbers.proofs.Cases.{clash, or-true, or-false}
-use Rattle.numbers.proofs.Lists.{all-imp, any-false}
-use Rattle.footprint.specs.declared.Limits.{Limits}
+use borrow.Author.Tests.{ltb-false, eqb-true, eqb-false, not-false}
+use Rattle.footprint.specs.Footprint.{maxExtents, blockOf, kindCode, committed, listsFail, logsFail, spanFails, blockFails, entryFails, countFails, outside, eachExtent, first, headerTests}
+use Rattle.footprint.specs.Inner.{beforeLast}
 use Rattle.footprint.specs.declared.Entry.{Entry}
 use Rattle.footprint.specs.declared.Header.{Header}
-use Rattle.footprint.specs.Footprint.{maxExtents, blockOf, kindCode, committed, listsFail, logsFail, spanFails, blockFails, near, entryFails, countFails, outside, eachExtent, first, headerTests}
-use Rattle.footprint.specs.Inner.{beforeLast}
+use Rattle.footprint.specs.declared.RegionKind.{RegionKind}
+use Rattle.footprint.specs.declared.RegionKind.the-variants.{Append, Page, Slot}
+use Rattle.footprint.specs.declared.Limits.{Limits}
+use Rattle.numbers.specs.Lists.{All}
+use Rattle.numbers.specs.Pairs.{isOdd, pairs}
+use Rattle.numbers.specs.Range.{Range, total}
+use Rattle.numbers.specs.Sums.{top}
 use Rattle.footprint.proofs.Tests.{first-none, refuse-none}
+use Rattle.numbers.proofs.Cases.{clash, or-true, or-false}
+use Rattle.numbers.proofs.Lists.{all-imp, any-false}
 
 pub record Lists (lim : Limits) (e : Entry) (h : Header) (xs : List ℕ) (places : ℕ) : Type 0 where
   pub even : isOdd xs ≡ false
@@ -144,7 +146,7 @@ pub record Passed (lim : Limits) (e : Entry) (h : Header) (xs : List ℕ) (place
   pub entry : Entries lim e xs
   pub count : (h .«extent_count» ≡ e .«extent_count») ⊎ (h .«extent_count» ≡ e .«extent_count» + 1)
   pub inside : All (Inside lim e) (committed e xs)
-  pub capacity : sum (map (λ (x : Range). x .len) (committed e xs)) ≡ e .capacity
+  pub capacity : total (committed e xs) ≡ e .capacity
 
 pub all-pass : (lim : Limits) (id : ℕ) (e : Entry) (h : Header) (xs : List ℕ) (places : ℕ) → beforeLast lim id e h xs places ≡ 0 → Passed lim e h xs places
 unfolding beforeLast
@@ -168,3 +170,16 @@ all-pass lim id e h xs places p =
       inside = each-pass lim e 0 (committed e xs) (t11 .0);
       capacity = eqb-true _ _ (not-false _ (refuse-none 12 _ (omega arith) (t12 .0)));
     }
+
+-- kinds with the same number are the same
+pub kinds-tell : (k j : RegionKind) → kindCode k ≡ kindCode j → k ≡ j
+unfolding kindCode
+kinds-tell Append Append e = refl
+kinds-tell Append Page e = absurd (omega arith)
+kinds-tell Append Slot e = absurd (omega arith)
+kinds-tell Page Append e = absurd (omega arith)
+kinds-tell Page Page e = refl
+kinds-tell Page Slot e = absurd (omega arith)
+kinds-tell Slot Append e = absurd (omega arith)
+kinds-tell Slot Page e = absurd (omega arith)
+kinds-tell Slot Slot e = refl

@@ -1,23 +1,23 @@
 -- Passes over the committed extents: one that looks for a length of 0, and one for refusals 11 and 12.
 use Prim.Native.Nat.{ℕ, suc, _+_, _*_, _/_, _≤_, _<_, min}
-use mathlib.Core.Bool.{Bool, true, false, _||_, not}
-use mathlib.Core.List.{List, [], _∷_, map}
-use mathlib.Core.Path.{_≡_, refl, ap, sym, _∙_}
-use native.Mathlib.Nat.{add-assoc, zero-add}
+use mathlib.Core.Bool.{Bool, true, false, not}
+use mathlib.Core.List.{List, [], _∷_}
+use mathlib.Core.Path.{_≡_, refl, sym, _∙_}
+use native.Mathlib.Nat.{zero-add}
 use native.Mathlib.Omega.{arith}
 use lib.Dec.{eqb, ltb}
 use lib.ListN.{length, getD, take, drop, length-take, drop-of-length-le}
 use lib.Seq.{drop-cons, length-take-le, getD-take}
 use borrow.Author.Tests.{ne-eqb}
-use Rattle.numbers.specs.Range.{Range, range, blank}
-use Rattle.numbers.specs.Pairs.{pairs}
-use Rattle.numbers.specs.Sums.{top, sum}
-use Rattle.numbers.specs.Lists.{any}
-use Rattle.numbers.proofs.Pairs.{length-pairs, pair-at, pair-in}
-use Rattle.footprint.specs.declared.Limits.{Limits}
-use Rattle.footprint.specs.declared.Entry.{Entry}
 use Rattle.footprint.specs.Footprint.{first, refuse, outside, eachExtent, extentTests}
+use Rattle.footprint.specs.declared.Entry.{Entry}
+use Rattle.footprint.specs.declared.Limits.{Limits}
+use Rattle.numbers.specs.Lists.{any}
+use Rattle.numbers.specs.Pairs.{pairs}
+use Rattle.numbers.specs.Range.{Range, range, blank, total}
+use Rattle.numbers.specs.Sums.{top, sum}
 use Rattle.footprint.proofs.Tests.{first-one}
+use Rattle.numbers.proofs.Pairs.{length-pairs, pair-at, pair-in}
 
 abbrev pub isEmpty : Range → Bool
 isEmpty x = eqb (x .len) 0
@@ -77,7 +77,7 @@ pub record Walked (lim : Limits) (e : Entry) (xs : List ℕ) (n i s : ℕ) : Typ
   pub rest :
       first (extentTests lim e (take (e .«extent_count») (pairs xs))) ≡
       first (eachExtent lim e s (drop i (take (e .«extent_count») (pairs xs))) ∷
-      refuse 12 (not (eqb (s + sum (map (λ (x : Range). x .len) (drop i (take (e .«extent_count») (pairs xs))))) (e .capacity))) ∷ [])
+      refuse 12 (not (eqb (s + total (drop i (take (e .«extent_count») (pairs xs)))) (e .capacity))) ∷ [])
 
 module _ (lim : Limits) (e : Entry) where
   each-on : (x : Range) (ys : List Range) (s : ℕ) → outside lim e x ≡ false → ltb top (s + x .len) ≡ false → eachExtent lim e s (x ∷ ys) ≡ eachExtent lim e (s + x .len) ys
@@ -111,7 +111,7 @@ module _ {lim : Limits} {e : Entry} {xs : List ℕ} {n i s : ℕ} (g : Walked li
     unfolding sum
     walk-on o p =
         let ys = drop (i + 1) (take (e .«extent_count») (pairs xs)) in
-        let a : s + (x .len + sum (map (λ (y : Range). y .len) ys)) ≡ s + x .len + sum (map (λ (y : Range). y .len) ys) = omega arith in
+        let a : s + (x .len + total ys) ≡ s + x .len + total ys = omega arith in
         record {
           all = g .all;
           below = omega arith;

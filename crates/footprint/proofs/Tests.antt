@@ -5,9 +5,9 @@ use mathlib.Core.List.{List, [], _∷_, _++_}
 use mathlib.Core.Path.{_≡_, refl, sym, _∙_}
 use native.Mathlib.Omega.{arith}
 use borrow.Author.Tests.{eq-eqb, ne-eqb}
+use Rattle.footprint.specs.Footprint.{first, refuse}
 use Rattle.numbers.specs.Lists.{All}
 use Rattle.numbers.proofs.Cases.{by-eq}
-use Rattle.footprint.specs.Footprint.{first, refuse}
 
 pub first-one : (n : ℕ) → first (n ∷ []) ≡ n
 unfolding first

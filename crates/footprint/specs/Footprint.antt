@@ -1,22 +1,22 @@
 -- Document 01, "Footprint check": what `check_region` refuses, and the footprint of a region that it accepts.
-use Prim.Native.Nat.{ℕ, _+_, _-_, _*_, _/_, _%_, _^_, min, max, _≤_}
-use mathlib.Core.Bool.{Bool, true, false, cond, not, _&&_, _||_}
-use mathlib.Core.List.{List, [], _∷_, _++_, map}
+use Prim.Native.Nat.{ℕ, _+_, _-_, _*_, _/_, _%_, _^_, min, max}
+use mathlib.Core.Bool.{Bool, false, cond, not, _&&_, _||_}
+use mathlib.Core.List.{List, [], _∷_, _++_}
 use mathlib.Core.Path.{_≡_}
-use lib.Dec.{ltb, leb, eqb}
+use lib.Dec.{ltb, eqb}
 use lib.ListN.{length, getD, take, drop}
-use Rattle.numbers.specs.Range.{Range, range, meets}
-use Rattle.numbers.specs.Pairs.{isOdd, pairs, flat}
-use Rattle.numbers.specs.Sums.{top, sum}
-use Rattle.numbers.specs.Lists.{any, written}
-use Rattle.sort.specs.Sort.{sorted}
-use Rattle.footprint.specs.declared.RegionKind.{RegionKind}
-use Rattle.footprint.specs.declared.RegionKind.the-variants.{Append, Page, Slot}
-use Rattle.footprint.specs.declared.Limits.{Limits}
 use Rattle.footprint.specs.declared.Entry.{Entry}
 use Rattle.footprint.specs.declared.Header.{Header}
+use Rattle.footprint.specs.declared.Limits.{Limits}
+use Rattle.footprint.specs.declared.RegionKind.{RegionKind}
+use Rattle.footprint.specs.declared.RegionKind.the-variants.{Append, Page, Slot}
 use Rattle.footprint.specs.declared.Verdict.{Verdict}
 use Rattle.footprint.specs.declared.Verdict.the-variants.{Usable, Ahead, Refused}
+use Rattle.numbers.specs.Lists.{any, written}
+use Rattle.numbers.specs.Pairs.{isOdd, pairs, flat}
+use Rattle.numbers.specs.Range.{Range, range, meets, total}
+use Rattle.numbers.specs.Sums.{top}
+use Rattle.sort.specs.Sort.{sorted}
 
 -- "max_extents(L) = (2^L - 192) / 16, L first held to 12..16"
 unfoldable pub maxExtents : ℕ → ℕ
@@ -128,22 +128,27 @@ entryTests lim e h xs places =
     refuse 2 (logsFail lim h) ∷
     refuse 4 (entryFails lim e xs) ∷ []
 
--- 5 to 10: "Region numbers differ. Kinds differ. Flags differ. The header isn't Ready. The header's extent count is not
--- allowed. Data size .. is no multiple of the header's block."
+-- 5 to 10: what entry and header must agree on.
 abbrev pub headerTests : ℕ → Entry → Header → List ℕ
 headerTests id e h =
+    -- "Region numbers differ."
     refuse 5 (not (eqb (h .«region_id») id)) ∷
+    -- "Kinds differ."
     refuse 6 (not (eqb (kindCode (h .kind)) (kindCode (e .kind)))) ∷
+    -- "Flags differ."
     refuse 7 (not (eqb (h .flags) (e .flags))) ∷
+    -- "The header isn't Ready."
     refuse 8 (not (h .ready)) ∷
+    -- "The header's extent count is not allowed."
     refuse 9 (countFails e h) ∷
+    -- "Data size .. is no multiple of the header's block."
     refuse 10 (not (eqb (e .«data_size» % 2 ^ (h .«log2_block»)) 0)) ∷ []
 
 -- 11 and 12, of which the second half is "The sum of extents .. isn't the capacity".
 abbrev pub extentTests : Limits → Entry → List Range → List ℕ
 extentTests lim e xs =
     eachExtent lim e 0 xs ∷
-    refuse 12 (not (eqb (sum (map (λ (x : Range). x .len) xs)) (e .capacity))) ∷ []
+    refuse 12 (not (eqb (total xs) (e .capacity))) ∷ []
 
 -- 13. "The footprint overlaps itself."
 abbrev pub overlapTests : List Range → List ℕ
@@ -188,8 +193,8 @@ pub record Filled (lim : Limits) (id : ℕ) (e : Entry) (h : Header) (xs s₀ s 
   pub slots : s ≡ scratchOf lim e xs (refusalOf lim id e h xs (length s₀)) s₀
 
 -- What `check_region` promises: the refusal, the part that it hands back, and the extra's slots, which keep
--- the range that they hold where no extra is handed out.
-pub record Checked (lim : Limits) (id : ℕ) (e : Entry) (h : Header) (xs s₀ part : List ℕ) (refusal : ℕ) (held extra : Range) : Type 0 where
+-- the old range where no extra is handed out.
+pub record Checked (lim : Limits) (id : ℕ) (e : Entry) (h : Header) (xs s₀ part : List ℕ) (refusal : ℕ) (old extra : Range) : Type 0 where
   pub number : refusal ≡ refusalOf lim id e h xs (length s₀)
   pub filled : part ≡ partOf lim e xs (refusalOf lim id e h xs (length s₀))
-  pub handed : extra ≡ getD (checkOf lim id e h xs (length s₀) .extra) 0 held
+  pub handed : extra ≡ getD (checkOf lim id e h xs (length s₀) .extra) 0 old

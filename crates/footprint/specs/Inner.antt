@@ -5,14 +5,14 @@ use mathlib.Core.List.{List, [], _∷_, _++_, map}
 use mathlib.Core.Path.{_≡_}
 use lib.Dec.{ltb, eqb}
 use lib.ListN.{length, getD, drop}
-use Rattle.numbers.specs.Range.{Range, range, blank}
-use Rattle.numbers.specs.Pairs.{flat}
-use Rattle.numbers.specs.Lists.{written}
-use Rattle.footprint.specs.declared.Limits.{Limits}
-use Rattle.footprint.specs.declared.Entry.{Entry}
-use Rattle.footprint.specs.declared.Header.{Header}
 use Rattle.footprint.specs.Footprint.{Answer, committed, footprintOf, first, entryTests, headerTests, extentTests}
 use Rattle.footprint.specs.Runs.{Run, notEmpty, joinedTo, joined, runsOf}
+use Rattle.footprint.specs.declared.Entry.{Entry}
+use Rattle.footprint.specs.declared.Header.{Header}
+use Rattle.footprint.specs.declared.Limits.{Limits}
+use Rattle.numbers.specs.Lists.{written}
+use Rattle.numbers.specs.Pairs.{flat}
+use Rattle.numbers.specs.Range.{Range, range, blank}
 
 -- Every refusal but 13.
 unfoldable pub beforeLast : Limits → ℕ → Entry → Header → List ℕ → ℕ → ℕ
@@ -29,9 +29,9 @@ pub record LaidOut (lim : Limits) (e : Entry) (xs s : List ℕ) (meet : Bool) : 
   pub answer : meet ≡ neighboursMeet (footprintOf lim e xs)
 
 -- An answer in lent numbers, and whether it accepts.
-pub record Reported (a : Answer) (refusal : ℕ) (held extra : Range) (usable : Bool) : Type 0 where
+pub record Reported (a : Answer) (refusal : ℕ) (old extra : Range) (usable : Bool) : Type 0 where
   pub number : refusal ≡ a .number
-  pub handed : extra ≡ getD (a .extra) 0 held
+  pub handed : extra ≡ getD (a .extra) 0 old
   pub accepts : usable ≡ eqb (a .number) 0
 
 -- The run that begins with the extent i has length len, and the extent `next` is the first behind it.

@@ -5,12 +5,12 @@ use mathlib.Core.List.{List, [], _∷_, map}
 use mathlib.Core.Path.{_≡_}
 use lib.Dec.{ltb, leb, eqb}
 use lib.ListN.{length}
-use Rattle.numbers.specs.Range.{Range, range}
-use Rattle.numbers.specs.Pairs.{isOdd, pairs}
-use Rattle.numbers.specs.Sums.{top, stop, sum}
+use Rattle.footprint.specs.declared.RunCount.{RunCount}
+use Rattle.footprint.specs.declared.RunCount.the-variants.{Runs, Refused}
 use Rattle.numbers.specs.Lists.{written}
-use Rattle.footprint.specs.declared.Written.{Written}
-use Rattle.footprint.specs.declared.Written.the-variants.{Runs, Refused}
+use Rattle.numbers.specs.Pairs.{isOdd, pairs}
+use Rattle.numbers.specs.Range.{Range, range}
+use Rattle.numbers.specs.Sums.{top, stop}
 
 -- "A run is its start .., file offset and length."
 pub record Run : Type 0 where
@@ -53,6 +53,10 @@ unfoldable pub byteOf : List Range → ℕ → ℕ
 byteOf [] p = 0
 byteOf (x ∷ xs) p = cond (ltb p (x .len)) (x .offset + p) (byteOf xs (p - x .len))
 
+-- What a list of runs reads past its end.
+abbrev pub blankRun : Run
+blankRun = run 0 0 0
+
 -- Position p lies in a run.
 pub record Holds (r : Run) (p : ℕ) : Type 0 where
   pub from : r .start ≤ p
@@ -71,7 +75,7 @@ pub record Count : Type 0 where
   pub number : ℕ
   pub runs : ℕ
 
-abbrev pub countOf : Written → Count
+abbrev pub countOf : RunCount → Count
 countOf (Runs n) = record { number = 0; runs = n }
 countOf (Refused n) = record { number = n; runs = 0 }
 

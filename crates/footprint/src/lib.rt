@@ -67,7 +67,7 @@ pub enum Verdict {
 }
 
 // How many runs were written, or document 01's refusal.
-pub enum Written {
+pub enum RunCount {
     Runs(usize),
     Refused(u64),
 }
@@ -179,21 +179,21 @@ pub fn check_region<'a>(
 }
 
 // The runs of extents, each as its start, its file offset and its length.
-pub fn runs(extents: &[u64], starts: &mut [u64], files: &mut [u64], lens: &mut [u64]) -> Written
+pub fn runs(extents: &[u64], starts: &mut [u64], files: &mut [u64], lens: &mut [u64]) -> RunCount
     ensures { λ r. ⌜ Listed (now (extents .entry)) (now (starts .entry)) (now (starts .exit)) (now (files .entry)) (now (files .exit)) (now (lens .entry)) (now (lens .exit)) (countOf r) ⌝ }
 {
     if extents.len() % 2 != 0 {
-        return Written::Refused(1);
+        return RunCount::Refused(1);
     }
     let n = extents.len() / 2;
     if starts.len() < n {
-        return Written::Refused(1);
+        return RunCount::Refused(1);
     }
     if files.len() < n {
-        return Written::Refused(1);
+        return RunCount::Refused(1);
     }
     if lens.len() < n {
-        return Written::Refused(1);
+        return RunCount::Refused(1);
     }
-    Written::Runs(join(extents, starts, files, lens))
+    RunCount::Runs(join(extents, starts, files, lens))
 }

@@ -1,8 +1,9 @@
 -- Document 01, head: ranges, their ends and bytes, and when two meet.
 use Prim.Native.Nat.{ℕ, _+_, _≤_, _<_, min, max}
 use mathlib.Core.Bool.{Bool}
+use mathlib.Core.List.{List, map}
 use lib.Dec.{ltb}
-use Rattle.numbers.specs.Sums.{stop}
+use Rattle.numbers.specs.Sums.{stop, sum}
 
 -- "A range is a pair (offset, length)".
 pub record Range : Type 0 where
@@ -34,3 +35,7 @@ pub record Meet (r q : Range) : Type 0 where
 -- The same as a test; `meets-true` and `meets-false` (proofs/Ranges) tie it to `Meet`.
 unfoldable pub meets : Range → Range → Bool
 meets r q = ltb (max (r .offset) (q .offset)) (min (endOf r) (endOf q))
+
+-- The lengths of a list of ranges together, in whole numbers.
+abbrev pub total : List Range → ℕ
+total rs = sum (map (λ (r : Range). r .len) rs)
