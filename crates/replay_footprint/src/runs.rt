@@ -5,7 +5,7 @@ use crate::words::list;
 use crate::words::past;
 use crate::words::past_list;
 use crate::words::same;
-use footprint::Written;
+use footprint::RunCount;
 ghost use Prim.Native.Nat.{_-_, _≤_};
 ghost use lib.ListN.{length};
 
@@ -35,7 +35,7 @@ pub(crate) fn runs_alike(case: &[u64]) -> bool {
     let mut files = [7u64; 32];
     let mut lens = [7u64; 32];
     let written = footprint::runs(list(past(case, 1)), &mut starts, &mut files, &mut lens);
-    let Written::Runs(n) = written else {
+    let RunCount::Runs(n) = written else {
         return false;
     };
     if n as u64 != at(answer, 0) {
