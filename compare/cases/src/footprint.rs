@@ -1,5 +1,6 @@
 //! `check_region`, `max_extents` and `runs`.
 
+mod listed;
 mod records;
 mod runs;
 mod smaller;
@@ -245,7 +246,7 @@ pub fn compare(random: &mut Random) -> Result<usize, String> {
     if let Some(k) = (0..14).find(|&k| k != 3 && answered[k] == 0) {
         return Err(format!("no region was answered with {k}"));
     }
-    Ok(256 + answered.iter().sum::<usize>() + runs::compare(random)?)
+    Ok(256 + answered.iter().sum::<usize>() + listed::compare()? + runs::compare(random)?)
 }
 
 /// Lines `check` and `runs`, below 12,000 numbers and 65,536 bytes in all.
