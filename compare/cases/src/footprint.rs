@@ -9,7 +9,7 @@ use crate::flat::{flat, pairs, words};
 use crate::lent::Lent;
 use crate::random::Random;
 use crate::table::{median, row};
-use oracle::footprint::check_region;
+use oracle::footprint::{Footprint, check_region};
 use oracle::header::{header_bytes, header_view, kind};
 use oracle::meta::{MetaError, RegionName, RegionState};
 use oracle::meta2::{Entry2, EntryLimits, RegionHeaderView};
@@ -119,6 +119,21 @@ fn view<'a>(r: &Record, bytes: &'a [u8]) -> RegionHeaderView<'a> {
     view
 }
 
+/// What the Rust answers, and the pairs that it leaves in scratch.
+fn by_rust(case: &Case, scratch: &[u64]) -> (Result<Footprint, MetaError>, Vec<(u64, u64)>) {
+    let r = &case.record;
+    let bytes = header_bytes(&pairs(&case.extents));
+    let mut lent = pairs(scratch);
+    let answer = check_region(
+        r.region_id,
+        &entry(r),
+        &view(r, &bytes),
+        &limits(r),
+        &mut lent,
+    );
+    (answer, lent)
+}
+
 /// The answer that is due. The Rust is asked where document 01 does not refuse before it: it has
 /// neither the entry checks nor the limits there, and finds a short scratch only after the header.
 fn due(case: &Case, extra: [u64; 2], scratch: &[u64]) -> Answer {
@@ -132,16 +147,7 @@ fn due(case: &Case, extra: [u64; 2], scratch: &[u64]) -> Answer {
     if before != 0 {
         return refused(before, scratch);
     }
-    let r = &case.record;
-    let bytes = header_bytes(&pairs(&case.extents));
-    let mut lent = pairs(scratch);
-    let answer = check_region(
-        r.region_id,
-        &entry(r),
-        &view(r, &bytes),
-        &limits(r),
-        &mut lent,
-    );
+    let (answer, lent) = by_rust(case, scratch);
     // what the Rust leaves, and the last number of an odd scratch, which it does not get
     let mut left = flat(&lent);
     left.extend(&scratch[left.len()..]);

@@ -1,10 +1,8 @@
 //! The differences that docs/DIFFERENCES.md lists, each on the input that it names.
 
 use super::records::Case;
-use super::{by_ours, entry, limits, view};
-use crate::flat::pairs;
-use oracle::footprint::check_region;
-use oracle::header::header_bytes;
+use super::{by_ours, by_rust};
+use oracle::footprint::Footprint;
 use oracle::meta::MetaError;
 use ours::Record;
 
@@ -45,25 +43,13 @@ fn extents(case: &mut Case, list: &[u64]) {
     case.scratch = list.len() + 4;
 }
 
-/// What the Rust answers, as a word, and the numbers that it leaves in scratch.
-fn by_rust(case: &Case, scratch: &[u64]) -> (&'static str, Vec<(u64, u64)>) {
-    let r = &case.record;
-    let bytes = header_bytes(&pairs(&case.extents));
-    let mut lent = pairs(scratch);
-    let answer = check_region(
-        r.region_id,
-        &entry(r),
-        &view(r, &bytes),
-        &limits(r),
-        &mut lent,
-    );
-    let word = match answer {
+fn named(answer: Result<Footprint, MetaError>) -> &'static str {
+    match answer {
         Ok(_) => "accepted",
         Err(MetaError::Field(name)) => name,
         Err(MetaError::Overlap) => "Overlap",
         Err(other) => panic!("check_region answers {other:?}"),
-    };
-    (word, lent)
+    }
 }
 
 type Change = fn(&mut Case);
@@ -72,7 +58,7 @@ type Change = fn(&mut Case);
 pub fn compare() -> Result<usize, String> {
     let headers = [(0, 4096), (4096, 4096)];
     // the change, what the Rust answers and has at the front of scratch then, our refusal
-    let rows: [(Change, &str, &[(u64, u64)], u64); 15] = [
+    let rows: [(Change, &str, &[(u64, u64)], u64); 14] = [
         (|_| (), "accepted", &headers, 0),
         (|c| c.record.capacity = 1, "capacity", &headers, 12),
         (
@@ -139,34 +125,23 @@ pub fn compare() -> Result<usize, String> {
         ),
         (
             |c| {
-                c.record.span_end = 1 << 20;
-                c.record.file_len = 1 << 20;
+                c.record.span_end = 8437;
+                c.record.file_len = 8437;
                 c.record.capacity = 245;
-                let list: Vec<u64> = (0..245).flat_map(|i| [8192 + i, 1]).collect();
+                let list: Vec<u64> = (8192..8437).flat_map(|at| [at, 1]).collect();
                 extents(c, &list);
             },
             "accepted",
             &headers,
             1,
         ),
-        (
-            |c| {
-                c.record.span_end = 1 << 20;
-                c.record.file_len = 1 << 20;
-                c.record.capacity = 244;
-                let list: Vec<u64> = (0..244).flat_map(|i| [8192 + i, 1]).collect();
-                extents(c, &list);
-            },
-            "accepted",
-            &headers,
-            0,
-        ),
     ];
     for (i, (change, word, front, refusal)) in rows.iter().enumerate() {
         let mut case = base();
         change(&mut case);
         let scratch: Vec<u64> = (7_000_000..).take(case.scratch).collect();
-        let (rust, left) = by_rust(&case, &scratch);
+        let (answer, left) = by_rust(&case, &scratch);
+        let rust = named(answer);
         let ours = by_ours(&case, [9, 9], &scratch);
         let unchanged = *refusal == 0 || ours.scratch == scratch;
         if rust != *word || !left.starts_with(front) || ours.refusal != *refusal || !unchanged {
