@@ -1,16 +1,16 @@
 -- What the check answers, from the tests that it makes and the scratch that it fills.
-use Prim.Native.Nat.{ℕ, suc, _+_, _-_, _*_, _%_, _^_, _≤_, _<_}
+use Prim.Native.Nat.{ℕ, suc, _+_, _-_, _*_, _≤_, _<_}
 use mathlib.Core.Bool.{Bool, true, false, not}
 use mathlib.Core.List.{List, [], _∷_, _++_}
 use mathlib.Core.Logic.{⊎-elim}
 use mathlib.Core.Path.{_≡_, ap, sym, _∙_}
 use native.Mathlib.Omega.{arith}
-use lib.Dec.{ltb, eqb}
+use lib.Dec.{eqb}
 use lib.ListN.{length, take, drop, getD, drop-of-length-le}
 use lib.Pow.{pow-pos}
 use lib.Seq.{drop-cons, length-take-le, take-at}
 use borrow.Author.Tests.{ne-eqb, eqb-true}
-use Rattle.footprint.specs.Footprint.{Answer, answerOf, checkOf, Checked, kindCode, listsFail, logsFail, entryFails, countFails, committed, ranges, footprintOf, refuse, eachExtent, outside, overlaps, entryTests, headerTests, extentTests, overlapTests, refusalOf, Filled}
+use Rattle.footprint.specs.Footprint.{Answer, answerOf, checkOf, Checked, committed, ranges, footprintOf, refuse, eachExtent, overlaps, entryTests, headerTests, extentTests, overlapTests, refusalOf, Filled}
 use Rattle.footprint.specs.Inner.{beforeLast, neighboursMeet, LaidOut, Reported}
 use Rattle.footprint.specs.declared.Entry.{Entry}
 use Rattle.footprint.specs.declared.Header.{Header}
@@ -18,7 +18,7 @@ use Rattle.footprint.specs.declared.Limits.{Limits}
 use Rattle.footprint.specs.declared.Verdict.the-variants.{Usable, Ahead, Refused}
 use Rattle.numbers.specs.Lists.{All, written}
 use Rattle.numbers.specs.Pairs.{pairs, flat}
-use Rattle.numbers.specs.Range.{Range, range, blank, total}
+use Rattle.numbers.specs.Range.{Range, range, blank}
 use Rattle.numbers.specs.Sums.{top}
 use Rattle.footprint.proofs.Overlap.{Solid, neighbours-decide, overlaps-sorted}
 use Rattle.footprint.proofs.Passed.{Passed, Inside, all-pass}
@@ -42,48 +42,20 @@ module _ (lim : Limits) (id : ℕ) (e : Entry) (h : Header) (xs : List ℕ) (pla
   late z = first-go before (overlapTests (ranges lim e xs)) z ∙ first-one (refuse 13 (overlaps (ranges lim e xs)))
 
   low : (n : ℕ) (b : Bool) → n < 13 → refuse n b < 13
+  unfolding refuse
   low n true p = p
   low n false p = omega arith
 
   each-low : (s : ℕ) (ys : List Range) → eachExtent lim e s ys < 13
   unfolding eachExtent
   each-low s [] = omega arith
-  each-low s (y ∷ ys) = first-low 13 _ (omega arith) (low 11 (outside lim e y) (omega arith), (low 12 (ltb top (s + y .len)) (omega arith), (each-low (s + y .len) ys, tt)))
+  each-low s (y ∷ ys) = first-low 13 _ (omega arith) (low 11 _ (omega arith), (low 12 _ (omega arith), (each-low (s + y .len) ys, tt)))
 
   pub not-last : beforeLast lim id e h xs places < 13
   unfolding beforeLast
   not-last =
-      first-low 13 before (omega arith) (
-        low 1 (listsFail lim e h xs places) (omega arith),
-        (
-          low 2 (logsFail lim h) (omega arith),
-          (
-            low 4 (entryFails lim e xs) (omega arith),
-            (
-              low 5 (not (eqb (h .«region_id») id)) (omega arith),
-              (
-                low 6 (not (eqb (kindCode (h .kind)) (kindCode (e .kind)))) (omega arith),
-                (
-                  low 7 (not (eqb (h .flags) (e .flags))) (omega arith),
-                  (
-                    low 8 (not (h .ready)) (omega arith),
-                    (
-                      low 9 (countFails e h) (omega arith),
-                      (
-                        low 10 (not (eqb (e .«data_size» % 2 ^ (h .«log2_block»)) 0)) (omega arith),
-                        (
-                          each-low 0 (committed e xs),
-                          (low 12 (not (eqb (total (committed e xs)) (e .capacity))) (omega arith), tt),
-                        ),
-                      ),
-                    ),
-                  ),
-                ),
-              ),
-            ),
-          ),
-        ),
-      )
+      first-low 13 before (omega arith)
+      (low 1 _ (omega arith), (low 2 _ (omega arith), (low 4 _ (omega arith), (low 5 _ (omega arith), (low 6 _ (omega arith), (low 7 _ (omega arith), (low 8 _ (omega arith), (low 9 _ (omega arith), (low 10 _ (omega arith), (each-low 0 (committed e xs), (low 12 _ (omega arith), tt)))))))))))
 
   -- of an accepted region no test failed
   pub none-before : refusalOf lim id e h xs places ≡ 0 → beforeLast lim id e h xs places ≡ 0
@@ -163,12 +135,14 @@ module _ (lim : Limits) (id : ℕ) (e : Entry) (h : Header) (xs s : List ℕ) wh
         rw (o .slots, k)
 
     pub refused-last : m ≡ true → Filled lim id e h xs s (ys ++ drop (2 * e .«extent_count» + 4 - 0) s) (answerOf (Refused 13))
+    unfolding refuse
     refused-last w =
         let n : refusalOf lim id e h xs (length s) ≡ 13 = number ∙ ap (refuse 13) w in
         record { answer = simp n; slots = kept ∙ simp n }
 
     module _ (w : m ≡ false) where
       accepted : refusalOf lim id e h xs (length s) ≡ 0
+      unfolding refuse
       accepted = number ∙ ap (refuse 13) w
 
       pub usable : h .«extent_count» ≤ e .«extent_count» → Filled lim id e h xs s (ys ++ drop (2 * e .«extent_count» + 4 - 0) s) (answerOf Usable)

@@ -12,9 +12,9 @@ use Rattle.footprint.specs.Footprint.{maxExtents, blockOf, kindCode, com
 use Rattle.footprint.specs.Inner.{beforeLast}
 use Rattle.footprint.specs.declared.Entry.{Entry}
 use Rattle.footprint.specs.declared.Header.{Header}
+use Rattle.footprint.specs.declared.Limits.{Limits}
 use Rattle.footprint.specs.declared.RegionKind.{RegionKind}
 use Rattle.footprint.specs.declared.RegionKind.the-variants.{Append, Page, Slot}
-use Rattle.footprint.specs.declared.Limits.{Limits}
 use Rattle.numbers.specs.Lists.{All}
 use Rattle.numbers.specs.Pairs.{isOdd, pairs}
 use Rattle.numbers.specs.Range.{Range, total}

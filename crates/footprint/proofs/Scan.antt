@@ -81,7 +81,7 @@ pub record Walked (lim : Limits) (e : Entry) (xs : List ℕ) (n i s : ℕ) : Typ
 
 module _ (lim : Limits) (e : Entry) where
   each-on : (x : Range) (ys : List Range) (s : ℕ) → outside lim e x ≡ false → ltb top (s + x .len) ≡ false → eachExtent lim e s (x ∷ ys) ≡ eachExtent lim e (s + x .len) ys
-  unfolding first eachExtent
+  unfolding first refuse eachExtent
   each-on x ys s o p = simp (o, p) (first-one (eachExtent lim e (s + x .len) ys))
 
 module _ (lim : Limits) (e : Entry) (xs : List ℕ) where
@@ -100,11 +100,11 @@ module _ {lim : Limits} {e : Entry} {xs : List ℕ} {n i s : ℕ} (g : Walked li
     walk-in = extent-in (e .«extent_count») i xs h
 
     pub walk-outside : outside lim e x ≡ true → first (extentTests lim e (take (e .«extent_count») (pairs xs))) ≡ 11
-    unfolding first eachExtent
+    unfolding first refuse eachExtent
     walk-outside o = g .rest ∙ rw (extent-next (e .«extent_count») i xs h) (simp o)
 
     pub walk-over : outside lim e x ≡ false → ltb top (s + x .len) ≡ true → first (extentTests lim e (take (e .«extent_count») (pairs xs))) ≡ 12
-    unfolding first eachExtent
+    unfolding first refuse eachExtent
     walk-over o p = g .rest ∙ rw (extent-next (e .«extent_count») i xs h) (simp (o, p))
 
     pub walk-on : outside lim e x ≡ false → ltb top (s + x .len) ≡ false → Walked lim e xs n (i + 1) (s + x .len)

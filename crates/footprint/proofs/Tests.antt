@@ -33,6 +33,7 @@ first-none n ns z =
     by-eq n 0 (λ e. (e, sym (simp (eq-eqb _ _ e)) ∙ z)) (λ d. absurd (d (sym (simp (ne-eqb _ _ d)) ∙ z)))
 
 pub refuse-none : (n : ℕ) (b : Bool) → 0 < n → refuse n b ≡ 0 → b ≡ false
+unfolding refuse
 refuse-none n true p z = absurd (omega arith)
 refuse-none n false p z = refl
 

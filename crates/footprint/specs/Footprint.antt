@@ -103,7 +103,7 @@ outside lim e x =
     || ltb (x .offset) (lim .«table_end»)
 
 -- The refusal n where a test fails, 0 where it does not.
-abbrev pub refuse : ℕ → Bool → ℕ
+unfoldable pub refuse : ℕ → Bool → ℕ
 refuse n fails = cond fails n 0
 
 -- "Where several apply, the lowest number is given": the first in a list of rising numbers that is not 0.

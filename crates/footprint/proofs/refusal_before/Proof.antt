@@ -5,7 +5,7 @@ use mathlib.Core.Logic.{⊎-elim}
 use mathlib.Core.Path.{_≡_, sym, _∙_}
 use native.Mathlib.Omega.{arith}
 use borrow.Author.Needs.{needs}
-use Rattle.footprint.specs.Footprint.{first, entryTests, headerTests, extentTests, committed}
+use Rattle.footprint.specs.Footprint.{first, entryTests, headerTests, extentTests, committed, refuse}
 use Rattle.footprint.specs.Inner.{beforeLast}
 use Rattle.footprint.proofs.Passed.{Logs, logs-pass, own-log, lists-pass, header-count}
 use Rattle.footprint.proofs.Tests.{first-go, first-stop}
@@ -19,7 +19,7 @@ abbrev entry-tests : (c : tie.Else3) → List ℕ
 entry-tests c = let a = c .before .before .before .before .before .before .before .args in entryTests (a .limits) (a .entry) (a .header) (a .extents .now) (a .places)
 
 entry-go : (c : tie.Else3) → first (entry-tests c) ≡ 0
-unfolding first
+unfolding first refuse
 entry-go c = simp (sym (c .before .before .before .before .before .lists-fail .ensures) ∙ c .before .before .before .before .if1 .left, sym (c .before .before .before .logs-fail .ensures) ∙ c .before .before .if2 .left, sym (c .before .entry-fails .ensures) ∙ c .if3 .left)
 
 abbrev header-tests : (c : tie.Else3) → List ℕ
@@ -35,21 +35,21 @@ lists-fail-requires : tie.Need-lists-fail-requires
 lists-fail-requires c κs = search needs
 
 returns : tie.Need-returns
-unfolding beforeLast first
+unfolding beforeLast first refuse
 returns c = simp (sym (c .before .lists-fail .ensures) ∙ c .if1 .taken)
 
 logs-fail-requires : tie.Need-logs-fail-requires
 logs-fail-requires c κs = search needs
 
 returns-2 : tie.Need-returns-2
-unfolding beforeLast first
+unfolding beforeLast first refuse
 returns-2 c = simp (sym (c .before .before .before .lists-fail .ensures) ∙ c .before .before .if1 .left, sym (c .before .logs-fail .ensures) ∙ c .if2 .taken)
 
 entry-fails-requires : tie.Need-entry-fails-requires
 entry-fails-requires c κs = logs c .high
 
 returns-3 : tie.Need-returns-3
-unfolding beforeLast first
+unfolding beforeLast first refuse
 returns-3 c = simp (sym (c .before .before .before .before .before .lists-fail .ensures) ∙ c .before .before .before .before .if1 .left, sym (c .before .before .before .logs-fail .ensures) ∙ c .before .before .if2 .left, sym (c .before .entry-fails .ensures) ∙ c .if3 .taken)
 
 header-refusal-requires : tie.Need-header-refusal-requires

@@ -5,6 +5,7 @@ use native.Mathlib.Omega.{arith}
 use lib.ListN.{getD}
 use borrow.Author.Needs.{needs}
 use borrow.Author.Tests.{eq-eqb, ne-eqb, ltb-false}
+use Rattle.footprint.specs.Footprint.{refuse}
 use Rattle.numbers.specs.Sums.{top}
 use Rattle.footprint.proofs.Scan.{Walked, walk-begins, walk-in, walk-outside, walk-over, walk-on, walk-ends}
 use Rattle.footprint.proofs.extents.extents_refusal.Statement.{statement}
@@ -68,9 +69,11 @@ loop-again : tie.Need-loop-again Inv-loop μ-loop
 loop-again c = walk-on (c .before .before .before .before .before .before .before .loop .inv) (c .before .before .before .before .before .before .loop-test .taken) (sym (c .before .before .before .outside .ensures) ∙ c .before .before .if1 .left) (sym (c .before .passes .ensures) ∙ c .if2 .left)
 
 returns-3 : tie.Need-returns-3 Inv-loop μ-loop
+unfolding refuse
 returns-3 c = sym (walk-ends (c .before .before .before .loop .inv) (c .before .before .loop-test .left) ∙ simp (ne-eqb _ _ (c .if3 .taken)))
 
 returns-4 : tie.Need-returns-4 Inv-loop μ-loop
+unfolding refuse
 returns-4 c = sym (walk-ends (c .before .before .before .loop .inv) (c .before .before .loop-test .left) ∙ simp (eq-eqb _ _ (c .if3 .left)))
 
 pub extents-refusal-spec : {M : Type 1} → statement M
