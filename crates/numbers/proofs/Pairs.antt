@@ -2,11 +2,10 @@
 use Prim.Native.Nat.{ℕ, zero, suc, _+_, _*_, _/_, _%_, _<_}
 use mathlib.Core.Bool.{true, false}
 use mathlib.Core.List.{List, [], _∷_, _++_}
-use mathlib.Core.Path.{_≡_, refl, ap, _∙_}
+use mathlib.Core.Path.{_≡_, refl, ap}
 use native.Mathlib.Nat.{not-suc-le-zero}
 use native.Mathlib.Omega.{arith}
-use lib.ListN.{length, getD, take, drop, set, length-set}
-use lib.Seq.{set-comm}
+use lib.ListN.{length, getD, take, drop, set}
 use borrow.Author.Tests.{eq-eqb, ne-eqb}
 use Rattle.numbers.specs.Pairs.{isOdd, pairs, flat}
 use Rattle.numbers.specs.Range.{Range, range, blank}
@@ -66,14 +65,6 @@ pair-set [] i a b h = absurd (not-suc-le-zero h)
 pair-set (o ∷ []) i a b h = absurd (omega arith)
 pair-set (o ∷ n ∷ l) zero a b h = refl
 pair-set (o ∷ n ∷ l) (suc i) a b h = rw (two-suc-one i, two-suc i) (ap (λ (t : List Range). range o n ∷ t) (pair-set l i a b (omega arith)))
-
--- stores of both numbers of two pairs, offsets first
-pub pairs-set : (l : List ℕ) (i j a b c d : ℕ) → 2 * i + 1 < length l → 2 * j + 1 < length l → pairs (set (set (set (set l (2 * i) a) (2 * j) c) (2 * i + 1) b) (2 * j + 1) d) ≡ set (set (pairs l) i (range a b)) j (range c d)
-pairs-set l i j a b c d h k =
-    let m = set (set l (2 * i) a) (2 * i + 1) b in
-    ap (λ (t : List ℕ). pairs (set t (2 * j + 1) d)) (set-comm (set l (2 * i) a) (2 * j) (2 * i + 1) c b (λ e. absurd (omega arith)))
-    ∙ pair-set m j c d (rw (length-set, length-set) k)
-    ∙ ap (λ (t : List Range). set t j (range c d)) (pair-set l i a b h)
 
 pub pairs-append : (a b : List ℕ) → length a % 2 ≡ 0 → pairs (a ++ b) ≡ pairs a ++ pairs b
 unfolding pairs
