@@ -9,17 +9,18 @@ ghost use Rattle.numbers.specs.Pairs.{pairs};
 ghost use Rattle.footprint.specs.Runs.{joins};
 ghost use Rattle.footprint.specs.Inner.{Reached, Joined};
 
-// Whether an extent (next, more) goes on where a run (file, len) ends, and neither sum passes 2^64 - 1.
+// Whether an extent (next, more) goes on where a run (file, len) ends, and neither sum passes
+// 2^64 - 1. A run that ends at an offset ends below that.
 fn follows(file: u64, len: u64, next: u64, more: u64) -> bool
     ensures { λ r. ⌜ r ≡ joins (range file len) (range next more) ⌝ }
 {
-    if passes(file, len, 0xffff_ffff_ffff_ffff) {
+    if next < len {
         return false;
     }
-    if passes(len, more, 0xffff_ffff_ffff_ffff) {
+    if next - len != file {
         return false;
     }
-    file + len == next
+    !passes(len, more, 0xffff_ffff_ffff_ffff)
 }
 
 // A run's length, and the first extent behind it.

@@ -1,11 +1,11 @@
 -- Case analysis: on a test, and on two numbers.
 use Prim.Native.Nat.{ℕ, _≤_, _<_}
-use mathlib.Core.Bool.{Bool, true, false, _||_}
+use mathlib.Core.Bool.{Bool, true, false, not, _||_}
 use mathlib.Core.Logic.{_⊎_, inl, inr}
 use mathlib.Core.Path.{_≡_, refl, sym, _∙_}
 use native.Mathlib.Omega.{arith}
-use lib.Dec.{ltb, eqb}
-use borrow.Author.Tests.{ltb-true, ltb-false, eqb-true, eqb-false}
+use lib.Dec.{ltb, leb, eqb}
+use borrow.Author.Tests.{lt-ltb, le-ltb, le-leb, lt-leb, ltb-true, ltb-false, eqb-true, eqb-false}
 
 module _ {P : Type 0} where
   pub cases : (b : Bool) → (b ≡ true → P) → (b ≡ false → P) → P
@@ -29,3 +29,7 @@ or-true false b e = inr e
 pub or-false : (a b : Bool) → (a || b) ≡ false → (a ≡ false) × (b ≡ false)
 or-false true b e = clash {b = true} refl e
 or-false false b e = (refl, e)
+
+-- not above is at most
+pub not-above : (m n : ℕ) → not (ltb n m) ≡ leb m n
+not-above m n = by-lt n m (λ h. rw (lt-ltb n m h, lt-leb m n h)) (λ h. rw (le-ltb n m h, le-leb m n h))
