@@ -35,7 +35,7 @@ module _ (lim : Limits) (id : ℕ) (e : Entry) (h : Header) (xs : List ℕ) (pla
   -- a refusal before the last is the refusal, and is not 13
   pub early : (beforeLast lim id e h xs places ≡ 0 → ⊥) → refusalOf lim id e h xs places ≡ beforeLast lim id e h xs places
   unfolding refusalOf beforeLast
-  early d = first-stop before (overlapTests (ranges lim e xs)) d
+  early d = first-stop before _ d
 
   pub late : beforeLast lim id e h xs places ≡ 0 → refusalOf lim id e h xs places ≡ refuse 13 (overlaps (ranges lim e xs))
   unfolding refusalOf beforeLast
