@@ -10,7 +10,7 @@ use lib.ListN.{length, take, drop, getD, drop-of-length-le}
 use lib.Pow.{pow-pos}
 use lib.Seq.{drop-cons, length-take-le, take-at}
 use borrow.Author.Tests.{ne-eqb, eqb-true}
-use Rattle.footprint.specs.Footprint.{Answer, answerOf, checkOf, Checked, committed, ranges, footprintOf, refuse, eachExtent, overlaps, entryTests, headerTests, extentTests, overlapTests, refusalOf, Filled}
+use Rattle.footprint.specs.Footprint.{first, Answer, answerOf, checkOf, Checked, committed, ranges, footprintOf, refuse, eachExtent, overlaps, entryTests, headerTests, extentTests, overlapTests, refusalOf, Filled}
 use Rattle.footprint.specs.Inner.{beforeLast, neighboursMeet, LaidOut, Reported}
 use Rattle.footprint.specs.declared.Entry.{Entry}
 use Rattle.footprint.specs.declared.Header.{Header}
@@ -22,8 +22,7 @@ use Rattle.numbers.specs.Range.{Range, range, blank}
 use Rattle.numbers.specs.Sums.{top}
 use Rattle.footprint.proofs.Overlap.{Solid, neighbours-decide, overlaps-sorted}
 use Rattle.footprint.proofs.Passed.{Passed, Inside, all-pass}
-use Rattle.footprint.proofs.Tests.{first-one, first-go, first-stop, first-low, refuse-none}
-use Rattle.numbers.proofs.Cases.{by-eq}
+use Rattle.footprint.proofs.Tests.{first-one, first-go, first-stop, first-parts, first-low, refuse-none}
 use Rattle.numbers.proofs.Lists.{all-both}
 use Rattle.numbers.proofs.Pairs.{length-flat, pair-at, pair-in}
 use Rattle.sort.proofs.Laws.{all-sorted, sorted-ascending, sorted-length}
@@ -58,14 +57,16 @@ module _ (lim : Limits) (id : ℕ) (e : Entry) (h : Header) (xs : List ℕ) (pla
       (low 1 _ (omega arith), (low 2 _ (omega arith), (low 4 _ (omega arith), (low 5 _ (omega arith), (low 6 _ (omega arith), (low 7 _ (omega arith), (low 8 _ (omega arith), (low 9 _ (omega arith), (low 10 _ (omega arith), (each-low 0 (committed e xs), (low 12 _ (omega arith), tt)))))))))))
 
   -- of an accepted region no test failed
-  pub none-before : refusalOf lim id e h xs places ≡ 0 → beforeLast lim id e h xs places ≡ 0
-  none-before z = by-eq (beforeLast lim id e h xs places) 0 (λ n. n) (λ d. absurd (d (sym (early d) ∙ z)))
+  none-failed : refusalOf lim id e h xs places ≡ 0 → (first before ≡ 0) × (first (overlapTests (ranges lim e xs)) ≡ 0)
+  unfolding refusalOf
+  none-failed z = first-parts before (overlapTests (ranges lim e xs)) z
 
   pub accepted-passed : refusalOf lim id e h xs places ≡ 0 → Passed lim e h xs places
-  accepted-passed z = all-pass lim id e h xs places (none-before z)
+  unfolding beforeLast
+  accepted-passed z = all-pass lim id e h xs places (none-failed z .0)
 
   pub accepted-apart : refusalOf lim id e h xs places ≡ 0 → overlaps (ranges lim e xs) ≡ false
-  accepted-apart z = refuse-none 13 (overlaps (ranges lim e xs)) (omega arith) (sym (late (none-before z)) ∙ z)
+  accepted-apart z = refuse-none 13 (overlaps (ranges lim e xs)) (omega arith) (sym (first-one _) ∙ none-failed z .1)
 
 module _ {lim : Limits} {e : Entry} {h : Header} {xs : List ℕ} {places : ℕ} (p : Passed lim e h xs places) where
   -- what is laid out has bytes, and ends below 2^64

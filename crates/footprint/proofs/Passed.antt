@@ -1,14 +1,14 @@
 -- What it means that a test of the check did not fail.
 use Prim.Native.Nat.{ℕ, _+_, _*_, _%_, _≤_, _<_}
 use mathlib.Core.Bool.{Bool, true, false, _&&_, not}
-use mathlib.Core.List.{List, [], _∷_}
+use mathlib.Core.List.{List, [], _∷_, _++_}
 use mathlib.Core.Logic.{_⊎_, inl, inr, ⊎-elim}
 use mathlib.Core.Path.{_≡_, refl}
 use native.Mathlib.Omega.{arith}
 use lib.Dec.{eqb}
 use lib.ListN.{length}
 use borrow.Author.Tests.{ltb-false, eqb-true, eqb-false, not-false}
-use Rattle.footprint.specs.Footprint.{maxExtents, blockOf, kindCode, committed, listsFail, logsFail, spanFails, blockFails, entryFails, countFails, outside, eachExtent, first, headerTests}
+use Rattle.footprint.specs.Footprint.{entryTests, extentTests, maxExtents, blockOf, kindCode, committed, listsFail, logsFail, spanFails, blockFails, entryFails, countFails, outside, eachExtent, first, headerTests}
 use Rattle.footprint.specs.Inner.{beforeLast}
 use Rattle.footprint.specs.declared.Entry.{Entry}
 use Rattle.footprint.specs.declared.Header.{Header}
@@ -19,7 +19,7 @@ use Rattle.numbers.specs.Lists.{All}
 use Rattle.numbers.specs.Pairs.{isOdd, pairs}
 use Rattle.numbers.specs.Range.{Range, total}
 use Rattle.numbers.specs.Sums.{top}
-use Rattle.footprint.proofs.Tests.{first-none, refuse-none}
+use Rattle.footprint.proofs.Tests.{first-none, first-parts, refuse-none}
 use Rattle.numbers.proofs.Cases.{clash, or-true, or-false}
 use Rattle.numbers.proofs.Lists.{all-imp, any-false}
 
@@ -151,22 +151,18 @@ pub record Passed (lim : Limits) (e : Entry) (h : Header) (xs : List ℕ) (place
 pub all-pass : (lim : Limits) (id : ℕ) (e : Entry) (h : Header) (xs : List ℕ) (places : ℕ) → beforeLast lim id e h xs places ≡ 0 → Passed lim e h xs places
 unfolding beforeLast
 all-pass lim id e h xs places p =
-    let t1 = first-none _ _ p in
+    let q = first-parts (entryTests lim e h xs places ++ headerTests id e h) (extentTests lim e (committed e xs)) p in
+    let r = first-parts (entryTests lim e h xs places) (headerTests id e h) (q .0) in
+    let t1 = first-none _ _ (r .0) in
     let t2 = first-none _ _ (t1 .1) in
     let t4 = first-none _ _ (t2 .1) in
-    let t5 = first-none _ _ (t4 .1) in
-    let t6 = first-none _ _ (t5 .1) in
-    let t7 = first-none _ _ (t6 .1) in
-    let t8 = first-none _ _ (t7 .1) in
-    let t9 = first-none _ _ (t8 .1) in
-    let t10 = first-none _ _ (t9 .1) in
-    let t11 = first-none _ _ (t10 .1) in
+    let t11 = first-none _ _ (q .1) in
     let t12 = first-none _ _ (t11 .1) in
     record {
       lists = lists-pass lim e h xs places (refuse-none 1 _ (omega arith) (t1 .0));
       logs = logs-pass lim h (refuse-none 2 _ (omega arith) (t2 .0));
       entry = entry-pass lim e xs (refuse-none 4 _ (omega arith) (t4 .0));
-      count = count-pass e h (refuse-none 9 _ (omega arith) (t9 .0));
+      count = header-count id e h (r .1);
       inside = each-pass lim e 0 (committed e xs) (t11 .0);
       capacity = eqb-true _ _ (not-false _ (refuse-none 12 _ (omega arith) (t12 .0)));
     }

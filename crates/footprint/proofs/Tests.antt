@@ -32,6 +32,10 @@ unfolding first
 first-none n ns z =
     by-eq n 0 (λ e. (e, sym (simp (eq-eqb _ _ e)) ∙ z)) (λ d. absurd (d (sym (simp (ne-eqb _ _ d)) ∙ z)))
 
+pub first-parts : (ns ms : List ℕ) → first (ns ++ ms) ≡ 0 → (first ns ≡ 0) × (first ms ≡ 0)
+first-parts ns ms z =
+    by-eq (first ns) 0 (λ e. (e, sym (first-go ns ms e) ∙ z)) (λ d. absurd (d (sym (first-stop ns ms d) ∙ z)))
+
 pub refuse-none : (n : ℕ) (b : Bool) → 0 < n → refuse n b ≡ 0 → b ≡ false
 unfolding refuse
 refuse-none n true p z = absurd (omega arith)

@@ -24,6 +24,7 @@ neighboursMeet [] = false
 neighboursMeet (r ∷ []) = false
 neighboursMeet (r ∷ q ∷ rs) = ltb (q .offset - r .offset) (r .len) || neighboursMeet (q ∷ rs)
 
+-- s holds the sorted footprint, and the answer is whether neighbours in it meet.
 pub record LaidOut (lim : Limits) (e : Entry) (xs s : List ℕ) (meet : Bool) : Type 0 where
   pub slots : s ≡ flat (footprintOf lim e xs)
   pub answer : meet ≡ neighboursMeet (footprintOf lim e xs)
