@@ -1,13 +1,12 @@
 -- The two loops of `runs`: one goes along a run, the other from run to run.
 use Prim.Native.Nat.{ℕ, suc, _+_, _*_, _/_, _≤_, _<_}
-use mathlib.Core.Bool.{true, false, and-false}
+use mathlib.Core.Bool.{true, false}
 use mathlib.Core.List.{List, [], _∷_, _++_, map, map-append, append-nil}
 use mathlib.Core.Path.{_≡_, refl, ap, sym, subst, _∙_}
 use native.Mathlib.Omega.{arith}
-use lib.Dec.{leb}
 use lib.ListN.{length, getD, drop, set, length-append, length-map, drop-of-length-le}
 use lib.Seq.{drop-cons, append-snoc}
-use borrow.Author.Tests.{eq-eqb, ne-eqb, leb-true}
+use borrow.Author.Tests.{eq-eqb, ne-eqb, leb-true, eqb-true, le-leb}
 use Rattle.footprint.specs.Inner.{Reached, Joined}
 use Rattle.footprint.specs.Runs.{Run, run, notEmpty, joins, joinedTo, joined, runsFrom, runsOf, runsFail, countOf, Listed}
 use Rattle.footprint.specs.declared.RunCount.the-variants.{Runs, Refused}
@@ -15,7 +14,7 @@ use Rattle.numbers.specs.Lists.{written}
 use Rattle.numbers.specs.Pairs.{pairs}
 use Rattle.numbers.specs.Range.{Range, range, blank}
 use Rattle.numbers.specs.Sums.{top, stop}
-use Rattle.numbers.proofs.Cases.{cases, clash}
+use Rattle.numbers.proofs.Cases.{and-true}
 use Rattle.numbers.proofs.Lists.{written-length, written-next}
 use Rattle.numbers.proofs.Pairs.{length-pairs, pair-at, pair-in}
 use Rattle.numbers.proofs.Sums.{stop-add}
@@ -37,10 +36,23 @@ module _ (xs : List ℕ) (i : ℕ) (h : i < length (pairs xs)) where
   unfolding notEmpty
   kept d = rw next-extent (simp (ne-eqb _ _ d))
 
--- what joins is short enough
-pub joins-short : (r x : Range) → joins r x ≡ true → r .len + x .len ≤ top
-unfolding joins
-joins-short r x e = cases (leb (r .len + x .len) top) (λ t. leb-true _ _ t) (λ f. clash e (simp (f, and-false)))
+-- what it means that an extent joins
+pub record Joins (r x : Range) : Type 0 where
+  pub ends : r .offset + r .len ≡ x .offset
+  pub below : r .offset + r .len ≤ top
+  pub short : r .len + x .len ≤ top
+
+module _ (r x : Range) where
+  pub joins-true : joins r x ≡ true → Joins r x
+  unfolding joins
+  joins-true e =
+      let a = and-true _ _ e in
+      let b = and-true _ _ (a .0) in
+      record { ends = eqb-true _ _ (b .0); below = leb-true _ _ (b .1); short = leb-true _ _ (a .1) }
+
+  pub true-joins : Joins r x → joins r x ≡ true
+  unfolding joins
+  true-joins m = simp (eq-eqb _ _ (m .ends), le-leb _ _ (m .below), le-leb _ _ (m .short))
 
 -- the run that begins with the extent i is (file, len) up to the extent j
 pub record Reaching (xs : List ℕ) (i n file len j : ℕ) : Type 0 where

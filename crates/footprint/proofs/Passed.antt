@@ -1,6 +1,6 @@
 -- What it means that a test of the check did not fail.
 use Prim.Native.Nat.{ℕ, _+_, _*_, _%_, _≤_, _<_}
-use mathlib.Core.Bool.{Bool, true, false, _&&_, not}
+use mathlib.Core.Bool.{false, not}
 use mathlib.Core.List.{List, [], _∷_, _++_}
 use mathlib.Core.Logic.{_⊎_, inl, inr, ⊎-elim}
 use mathlib.Core.Path.{_≡_, refl}
@@ -20,9 +20,10 @@ use Rattle.numbers.specs.Pairs.{isOdd, pairs}
 use Rattle.numbers.specs.Range.{Range, total}
 use Rattle.numbers.specs.Sums.{top}
 use Rattle.footprint.proofs.Tests.{first-none, first-parts, refuse-none}
-use Rattle.numbers.proofs.Cases.{clash, or-true, or-false}
+use Rattle.numbers.proofs.Cases.{and-true, or-true, or-false}
 use Rattle.numbers.proofs.Lists.{all-imp, any-false}
 
+-- 1: the lists have their lengths
 pub record Lists (lim : Limits) (e : Entry) (h : Header) (xs : List ℕ) (places : ℕ) : Type 0 where
   pub even : isOdd xs ≡ false
   pub listed : length (pairs xs) ≡ h .«extent_count»
@@ -38,6 +39,7 @@ lists-pass lim e h xs places p =
     let d = or-false _ _ (c .0) in
     record { even = d .0; listed = eqb-true _ _ (not-false _ (d .1)); few = ltb-false _ _ (c .1); room = ltb-false _ _ (a .1) }
 
+-- 2: the block logs are allowed
 pub record Logs (lim : Limits) (h : Header) : Type 0 where
   pub low : 12 ≤ lim .«log2_block»
   pub high : lim .«log2_block» ≤ 16
@@ -70,6 +72,7 @@ block-pass block e at p =
     let b = or-false _ _ (a .0) in
     record { aligned = eqb-true _ _ (not-false _ (b .0)); from = ltb-false _ _ (b .1); upto = ltb-false _ _ (a .1) }
 
+-- 4: the added entry checks
 pub record Entries (lim : Limits) (e : Entry) (xs : List ℕ) : Type 0 where
   pub table : lim .«table_end» ≤ e .«span_start»
   pub file : e .«span_end» ≤ lim .«file_len»
@@ -101,11 +104,7 @@ entry-pass lim e xs p =
 pub count-pass : (e : Entry) (h : Header) → countFails e h ≡ false → (h .«extent_count» ≡ e .«extent_count») ⊎ (h .«extent_count» ≡ e .«extent_count» + 1)
 unfolding countFails
 count-pass e h p =
-    ⊎-elim (λ t. inl (eqb-true _ _ t)) (λ t. inr (eqb-true _ _ (right (not (eqb (kindCode (e .kind)) 3)) (eqb (h .«extent_count») (e .«extent_count» + 1)) t))) (or-true _ _ (not-false _ p))
-  where
-    right : (a b : Bool) → (a && b) ≡ true → b ≡ true
-    right true b e = e
-    right false b e = clash {b = false} e refl
+    ⊎-elim (λ t. inl (eqb-true _ _ t)) (λ t. inr (eqb-true _ _ (and-true (not (eqb (kindCode (e .kind)) 3)) (eqb (h .«extent_count») (e .«extent_count» + 1)) t .1))) (or-true _ _ (not-false _ p))
 
 pub header-count : (id : ℕ) (e : Entry) (h : Header) → first (headerTests id e h) ≡ 0 → (h .«extent_count» ≡ e .«extent_count») ⊎ (h .«extent_count» ≡ e .«extent_count» + 1)
 header-count id e h p =

@@ -1,6 +1,7 @@
--- Positions in runs: each position of the extents laid end to end lies in one run, which gives its byte.
+-- Positions in runs: each position of the extents laid end to end lies in one run, which gives its byte; and runs are
+-- joined as far as they may be.
 use Prim.Native.Nat.{ℕ, zero, suc, _+_, _-_, _≤_, _<_}
-use mathlib.Core.Bool.{true}
+use mathlib.Core.Bool.{true, false}
 use mathlib.Core.List.{List, [], _∷_}
 use mathlib.Core.Path.{_≡_, refl, ap, sym, _∙_}
 use native.Mathlib.Nat.{le-of-suc-le-suc, not-suc-le-zero, sub-zero}
@@ -9,8 +10,9 @@ use lib.Dec.{eqb}
 use lib.ListN.{length, getD}
 use borrow.Author.Tests.{lt-ltb, le-ltb, eqb-true}
 use Rattle.footprint.specs.Runs.{Run, blankRun, notEmpty, joins, joinedTo, joined, runsFrom, runsOf, byteOf, Holds, runByte}
-use Rattle.numbers.specs.Range.{Range, range, total}
+use Rattle.numbers.specs.Range.{Range, range, blank, total}
 use Rattle.numbers.specs.Sums.{top, stop, sum}
+use Rattle.footprint.proofs.Joining.{joins-true, true-joins}
 use Rattle.numbers.proofs.Cases.{cases, by-lt, clash}
 
 -- ---- joining moves no byte, and keeps the lengths together
@@ -24,13 +26,9 @@ byte-later : (x : Range) (xs : List Range) (p : ℕ) → x .len ≤ p → byteOf
 unfolding byteOf
 byte-later x xs p h = simp (le-ltb _ _ h)
 
-joins-end : (r x : Range) → joins r x ≡ true → r .offset + r .len ≡ x .offset
-unfolding joins
-joins-end r x e = cases (eqb (r .offset + r .len) (x .offset)) (λ t. eqb-true _ _ t) (λ f. clash e (simp f))
-
 byte-joined : (r x : Range) (xs : List Range) (p : ℕ) → joins r x ≡ true → byteOf (range (r .offset) (r .len + x .len) ∷ xs) p ≡ byteOf (r ∷ x ∷ xs) p
 byte-joined r x xs p e =
-    let j = joins-end r x e in
+    let j = joins-true r x e .ends in
     let w = range (r .offset) (r .len + x .len) in
     by-lt p (r .len)
     (λ h. byte-here w xs p (omega arith) ∙ sym (byte-here r (x ∷ xs) p h))
@@ -164,3 +162,52 @@ in-one-run xs p h =
       only = w .only;
       byte = w .there ∙ ap (byteOf (joined (notEmpty xs))) (sub-zero p) ∙ bytes-joined (notEmpty xs) p ∙ bytes-notEmpty xs p;
     }
+
+-- ---- no two neighbours in the joined list join once more
+
+-- the joined list begins where the list does, and its first range is at least as long
+record Begins (x : Range) (l : List Range) : Type 0 where
+  head : Range
+  tail : List Range
+  is : l ≡ head ∷ tail
+  from : head .offset ≡ x .offset
+  long : x .len ≤ head .len
+
+begins : (x : Range) (xs : List Range) → Begins x (joinedTo x xs)
+unfolding joinedTo
+begins x [] = record { head = x; tail = []; is = refl; from = refl; long = omega arith }
+begins x (y ∷ ys) =
+    cases (joins x y)
+    (λ e.
+    let b = begins (range (x .offset) (x .len + y .len)) ys in
+    record { head = b .head; tail = b .tail; is = simp e (b .is); from = b .from; long = omega (arith, b .long) })
+    (λ e. record { head = x; tail = joinedTo y ys; is = simp e; from = refl; long = omega arith })
+
+-- what a range does not join, it does not join when that has grown
+longer : (r x h : Range) → joins r x ≡ false → h .offset ≡ x .offset → x .len ≤ h .len → joins r h ≡ false
+longer r x h f o l =
+    cases (joins r h)
+    (λ t.
+    let m = joins-true r h t in
+    clash (true-joins r x (record { ends = m .ends ∙ o; below = m .below; short = omega (arith, m .short) })) f)
+    (λ n. n)
+
+-- at i and behind it
+abbrev pub NoJoin : List Range → ℕ → Type 0
+NoJoin l i = suc i < length l → joins (getD l i blank) (getD l (suc i) blank) ≡ false
+
+apart-next : (r x : Range) (xs : List Range) → joins r x ≡ false → ((j : ℕ) → NoJoin (joinedTo x xs) j) → (i : ℕ) → NoJoin (r ∷ joinedTo x xs) i
+apart-next r x xs e f zero h = let b = begins x xs in rw (b .is) (longer r x (b .head) e (b .from) (b .long))
+apart-next r x xs e f (suc i) h = f i (le-of-suc-le-suc h)
+
+apart-to : (r : Range) (xs : List Range) (i : ℕ) → NoJoin (joinedTo r xs) i
+unfolding joinedTo
+apart-to r [] i = λ h. absurd (omega arith)
+apart-to r (x ∷ xs) i =
+    cases (joins r x) (λ e. simp e (apart-to (range (r .offset) (r .len + x .len)) xs i))
+    (λ e. simp e (apart-next r x xs e (apart-to x xs) i))
+
+pub runs-apart : (xs : List Range) (i : ℕ) → NoJoin (joined xs) i
+unfolding joined
+runs-apart [] i = λ h. absurd (not-suc-le-zero h)
+runs-apart (x ∷ xs) i = apart-to x xs i

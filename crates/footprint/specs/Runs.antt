@@ -35,6 +35,7 @@ unfoldable pub joinedTo : Range → List Range → List Range
 joinedTo r [] = r ∷ []
 joinedTo r (x ∷ xs) = cond (joins r x) (joinedTo (range (r .offset) (r .len + x .len)) xs) (r ∷ joinedTo x xs)
 
+-- No neighbours are left that join (`runs-apart` in proofs/Positions).
 unfoldable pub joined : List Range → List Range
 joined [] = []
 joined (r ∷ rs) = joinedTo r rs

@@ -1,4 +1,4 @@
-// The tests on the records alone: refusals 1, 2, 4 (but for the extents' lengths) and 5 to 10.
+// The tests on the records: refusals 1, 2, 4 and 5 to 10.
 use crate::Entry;
 use crate::Header;
 use crate::Limits;

@@ -1,6 +1,6 @@
 -- Case analysis: on a test, and on two numbers.
-use Prim.Native.Nat.{ℕ, _≤_, _<_}
-use mathlib.Core.Bool.{Bool, true, false, not, _||_}
+use Prim.Native.Nat.{ℕ, _+_, _-_, _≤_, _<_}
+use mathlib.Core.Bool.{Bool, true, false, not, _&&_, _||_}
 use mathlib.Core.Logic.{_⊎_, inl, inr}
 use mathlib.Core.Path.{_≡_, refl, sym, _∙_}
 use native.Mathlib.Omega.{arith}
@@ -30,6 +30,16 @@ pub or-false : (a b : Bool) → (a || b) ≡ false → (a ≡ false) × (b ≡ f
 or-false true b e = clash {b = true} refl e
 or-false false b e = (refl, e)
 
+pub and-true : (a b : Bool) → (a && b) ≡ true → (a ≡ true) × (b ≡ true)
+and-true true b e = (refl, e)
+and-true false b e = clash {b = false} e refl
+
 -- not above is at most
 pub not-above : (m n : ℕ) → not (ltb n m) ≡ leb m n
 not-above m n = by-lt n m (λ h. rw (lt-ltb n m h, lt-leb m n h)) (λ h. rw (le-ltb n m h, le-leb m n h))
+
+-- what is left of d is compared with b
+pub left-over : (d m b : ℕ) → m ≤ d → ltb (d - m) b ≡ ltb d (m + b)
+left-over d m b h =
+    by-lt d (m + b) (λ l. lt-ltb (d - m) b (omega arith) ∙ sym (lt-ltb d (m + b) l))
+    (λ l. le-ltb (d - m) b (omega arith) ∙ sym (le-ltb d (m + b) l))

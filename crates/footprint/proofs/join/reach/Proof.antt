@@ -6,7 +6,7 @@ use lib.ListN.{getD}
 use borrow.Author.Needs.{needs}
 use borrow.Author.Tests.{not-true, not-false}
 use Rattle.numbers.specs.Range.{range}
-use Rattle.footprint.proofs.Joining.{joins-short, Reaching, reach-begins, reach-in, reach-skips, reach-joins, reach-stops, reach-ends}
+use Rattle.footprint.proofs.Joining.{joins-true, Reaching, reach-begins, reach-in, reach-skips, reach-joins, reach-stops, reach-ends}
 use Rattle.footprint.proofs.join.reach.Statement.{statement}
 use Rattle.numbers.proofs.Pairs.{pair-in}
 use Rattle.footprint.proofs.join.reach.Tie as tie
@@ -83,8 +83,8 @@ returns c = reach-stops (c .before .before .before .before .before .before .loop
 add-len-2 : tie.Need-add-len-2 Inv-loop μ-loop
 add-len-2 c = let l = c .before .before .before .before .before .before .loop in
     let x = range (getD (c .before .before .before .before .before .before .before .before .before .before .args .extents .now) (2 * l .j) 0) (getD (c .before .before .before .before .before .before .before .before .before .before .args .extents .now) (2 * l .j + 1) 0) in
-    let h = joins-short (range (getD (c .before .before .before .before .before .before .before .before .before .before .args .extents .now) (2 * c .before .before .before .before .before .before .before .before .before .before .args .i) 0) (l .len)) x (sym (c .before .follows .ensures) ∙ not-false _ (c .if2 .left)) in
-    omega arith
+    let h = joins-true (range (getD (c .before .before .before .before .before .before .before .before .before .before .args .extents .now) (2 * c .before .before .before .before .before .before .before .before .before .before .args .i) 0) (l .len)) x (sym (c .before .follows .ensures) ∙ not-false _ (c .if2 .left)) in
+    omega (arith, h .short)
 
 add-j-3 : tie.Need-add-j-3 Inv-loop μ-loop
 add-j-3 c = let h = reach-in (c .before .before .before .before .before .before .loop .inv) (c .before .before .before .before .before .loop-test .taken) in omega arith
