@@ -10,7 +10,7 @@ use lib.ListN.{length, take, drop, getD, drop-of-length-le}
 use lib.Pow.{pow-pos}
 use lib.Seq.{drop-cons, length-take-le, take-at}
 use borrow.Author.Tests.{ne-eqb, eqb-true}
-use Rattle.footprint.specs.Footprint.{first, Answer, answerOf, checkOf, Checked, committed, ranges, footprintOf, refuse, eachExtent, overlaps, entryTests, headerTests, extentTests, overlapTests, refusalOf, Filled}
+use Rattle.footprint.specs.Footprint.{outside, Answer, answerOf, checkOf, Checked, committed, ranges, footprintOf, overlaps, entryTests, headerTests, extentTests, overlapTests, refusalOf, Filled}
 use Rattle.footprint.specs.Inner.{beforeLast, neighboursMeet, LaidOut, Reported}
 use Rattle.footprint.specs.declared.Entry.{Entry}
 use Rattle.footprint.specs.declared.Header.{Header}
@@ -19,12 +19,13 @@ use Rattle.footprint.specs.declared.Verdict.the-variants.{Usable, Ahead,
 use Rattle.numbers.specs.Lists.{All, written}
 use Rattle.numbers.specs.Pairs.{pairs, flat}
 use Rattle.numbers.specs.Range.{Range, range, blank}
+use Rattle.numbers.specs.Refusals.{first, refuse}
 use Rattle.numbers.specs.Sums.{top}
 use Rattle.footprint.proofs.Overlap.{Solid, neighbours-decide, overlaps-sorted}
 use Rattle.footprint.proofs.Passed.{Passed, Inside, all-pass}
-use Rattle.footprint.proofs.Tests.{first-one, first-go, first-stop, first-parts, first-low, refuse-none}
 use Rattle.numbers.proofs.Lists.{all-both}
 use Rattle.numbers.proofs.Pairs.{length-flat, pair-at, pair-in}
+use Rattle.numbers.proofs.Refusals.{first-one, first-go, first-stop, first-parts, first-low, refuse-none, refuse-low, each-low}
 use Rattle.sort.proofs.Laws.{all-sorted, sorted-ascending, sorted-length}
 
 module _ (lim : Limits) (id : ℕ) (e : Entry) (h : Header) (xs : List ℕ) (places : ℕ) where
@@ -40,21 +41,11 @@ module _ (lim : Limits) (id : ℕ) (e : Entry) (h : Header) (xs : List ℕ) (pla
   unfolding refusalOf beforeLast
   late z = first-go before (overlapTests (ranges lim e xs)) z ∙ first-one (refuse 13 (overlaps (ranges lim e xs)))
 
-  low : (n : ℕ) (b : Bool) → n < 13 → refuse n b < 13
-  unfolding refuse
-  low n true p = p
-  low n false p = omega arith
-
-  each-low : (s : ℕ) (ys : List Range) → eachExtent lim e s ys < 13
-  unfolding eachExtent
-  each-low s [] = omega arith
-  each-low s (y ∷ ys) = first-low 13 _ (omega arith) (low 11 _ (omega arith), (low 12 _ (omega arith), (each-low (s + y .len) ys, tt)))
-
   pub not-last : beforeLast lim id e h xs places < 13
   unfolding beforeLast
   not-last =
       first-low 13 before (omega arith)
-      (low 1 _ (omega arith), (low 2 _ (omega arith), (low 4 _ (omega arith), (low 5 _ (omega arith), (low 6 _ (omega arith), (low 7 _ (omega arith), (low 8 _ (omega arith), (low 9 _ (omega arith), (low 10 _ (omega arith), (each-low 0 (committed e xs), (low 12 _ (omega arith), tt)))))))))))
+      (refuse-low 13 1 _ (omega arith), (refuse-low 13 2 _ (omega arith), (refuse-low 13 4 _ (omega arith), (refuse-low 13 5 _ (omega arith), (refuse-low 13 6 _ (omega arith), (refuse-low 13 7 _ (omega arith), (refuse-low 13 8 _ (omega arith), (refuse-low 13 9 _ (omega arith), (refuse-low 13 10 _ (omega arith), (each-low (outside lim e) 0 (committed e xs), (refuse-low 13 12 _ (omega arith), tt)))))))))))
 
   -- of an accepted region no test failed
   none-failed : refusalOf lim id e h xs places ≡ 0 → (first before ≡ 0) × (first (overlapTests (ranges lim e xs)) ≡ 0)

@@ -1,4 +1,3 @@
-pub mod Tests
 pub mod Scan
 pub mod Joining
 pub mod Overlap

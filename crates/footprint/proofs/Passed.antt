@@ -1,14 +1,14 @@
 -- What it means that a test of the check did not fail.
 use Prim.Native.Nat.{ℕ, _+_, _*_, _%_, _≤_, _<_}
 use mathlib.Core.Bool.{false, not}
-use mathlib.Core.List.{List, [], _∷_, _++_}
+use mathlib.Core.List.{List, _++_}
 use mathlib.Core.Logic.{_⊎_, inl, inr, ⊎-elim}
 use mathlib.Core.Path.{_≡_, refl}
 use native.Mathlib.Omega.{arith}
 use lib.Dec.{eqb}
 use lib.ListN.{length}
 use borrow.Author.Tests.{ltb-false, eqb-true, eqb-false, not-false}
-use Rattle.footprint.specs.Footprint.{entryTests, extentTests, maxExtents, blockOf, kindCode, committed, listsFail, logsFail, spanFails, blockFails, entryFails, countFails, outside, eachExtent, first, headerTests}
+use Rattle.footprint.specs.Footprint.{entryTests, extentTests, maxExtents, blockOf, kindCode, committed, listsFail, logsFail, spanFails, blockFails, entryFails, countFails, outside, headerTests}
 use Rattle.footprint.specs.Inner.{beforeLast}
 use Rattle.footprint.specs.declared.Entry.{Entry}
 use Rattle.footprint.specs.declared.Header.{Header}
@@ -18,10 +18,11 @@ use Rattle.footprint.specs.declared.RegionKind.the-variants.{Append, Pag
 use Rattle.numbers.specs.Lists.{All}
 use Rattle.numbers.specs.Pairs.{isOdd, pairs}
 use Rattle.numbers.specs.Range.{Range, total}
+use Rattle.numbers.specs.Refusals.{first}
 use Rattle.numbers.specs.Sums.{top}
-use Rattle.footprint.proofs.Tests.{first-none, first-parts, refuse-none}
 use Rattle.numbers.proofs.Cases.{and-true, or-true, or-false}
 use Rattle.numbers.proofs.Lists.{all-imp, any-false}
+use Rattle.numbers.proofs.Refusals.{first-none, first-parts, refuse-none, each-inside}
 
 -- 1: the lists have their lengths
 pub record Lists (lim : Limits) (e : Entry) (h : Header) (xs : List ℕ) (places : ℕ) : Type 0 where
@@ -129,15 +130,6 @@ inside-pass lim e x p =
     let c = or-false _ _ (b .0) in
     record { ends = ltb-false _ _ (c .0); from = ltb-false _ _ (b .1); upto = ltb-false _ _ (c .1) }
 
-pub each-pass : (lim : Limits) (e : Entry) (s : ℕ) (xs : List Range) → eachExtent lim e s xs ≡ 0 → All (Inside lim e) xs
-unfolding eachExtent
-each-pass lim e s [] p = tt
-each-pass lim e s (x ∷ xs) p =
-    let a = first-none _ _ p in
-    let b = first-none _ _ (a .1) in
-    let c = first-none _ _ (b .1) in
-    (inside-pass lim e x (refuse-none 11 _ (omega arith) (a .0)), each-pass lim e (s + x .len) xs (c .0))
-
 -- every test but the last
 pub record Passed (lim : Limits) (e : Entry) (h : Header) (xs : List ℕ) (places : ℕ) : Type 0 where
   pub lists : Lists lim e h xs places
@@ -162,7 +154,7 @@ all-pass lim id e h xs places p =
       logs = logs-pass lim h (refuse-none 2 _ (omega arith) (t2 .0));
       entry = entry-pass lim e xs (refuse-none 4 _ (omega arith) (t4 .0));
       count = header-count id e h (r .1);
-      inside = each-pass lim e 0 (committed e xs) (t11 .0);
+      inside = all-imp (λ (x : Range). outside lim e x ≡ false) (Inside lim e) (inside-pass lim e) (committed e xs) (each-inside (outside lim e) 0 (committed e xs) (t11 .0));
       capacity = eqb-true _ _ (not-false _ (refuse-none 12 _ (omega arith) (t12 .0)));
     }
 

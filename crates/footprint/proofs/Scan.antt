@@ -1,23 +1,23 @@
 -- Passes over the committed extents: one that looks for a length of 0, and one for refusals 11 and 12.
 use Prim.Native.Nat.{ℕ, suc, _+_, _*_, _/_, _≤_, _<_, min}
 use mathlib.Core.Bool.{Bool, true, false, not}
-use mathlib.Core.List.{List, [], _∷_}
-use mathlib.Core.Path.{_≡_, refl, sym, _∙_}
-use native.Mathlib.Nat.{zero-add}
+use mathlib.Core.List.{List, _∷_}
+use mathlib.Core.Path.{_≡_, refl, _∙_}
 use native.Mathlib.Omega.{arith}
 use lib.Dec.{eqb, ltb}
 use lib.ListN.{length, getD, take, drop, length-take, drop-of-length-le}
-use lib.Seq.{drop-cons, length-take-le, getD-take}
+use lib.Seq.{drop-cons, getD-take}
 use borrow.Author.Tests.{ne-eqb}
-use Rattle.footprint.specs.Footprint.{first, refuse, outside, eachExtent, extentTests}
+use Rattle.footprint.specs.Footprint.{committed, outside, extentTests}
 use Rattle.footprint.specs.declared.Entry.{Entry}
 use Rattle.footprint.specs.declared.Limits.{Limits}
 use Rattle.numbers.specs.Lists.{any}
 use Rattle.numbers.specs.Pairs.{pairs}
-use Rattle.numbers.specs.Range.{Range, range, blank, total}
+use Rattle.numbers.specs.Range.{Range, range, blank}
+use Rattle.numbers.specs.Refusals.{first, refuse}
 use Rattle.numbers.specs.Sums.{top, sum}
-use Rattle.footprint.proofs.Tests.{first-one}
 use Rattle.numbers.proofs.Pairs.{length-pairs, pair-at, pair-in}
+use Rattle.numbers.proofs.Refusals.{first-one, Walked, walk-outside, walk-over, walk-on, walk-ends, walk-sum}
 
 abbrev pub isEmpty : Range → Bool
 isEmpty x = eqb (x .len) 0
@@ -27,7 +27,7 @@ module _ (count i : ℕ) (xs : List ℕ) (h : i < length (take count (pairs xs))
   pub extent-in : 2 * i + 1 < length xs
   extent-in = let e = length-take count (pairs xs) in pair-in xs i (omega arith)
 
-  extent-at : getD (take count (pairs xs)) i blank ≡ range (getD xs (2 * i) 0) (getD xs (2 * i + 1) 0)
+  pub extent-at : getD (take count (pairs xs)) i blank ≡ range (getD xs (2 * i) 0) (getD xs (2 * i + 1) 0)
   extent-at =
       let e = length-take count (pairs xs) in
       getD-take count (pairs xs) i blank (omega arith) ∙ pair-at xs i extent-in
@@ -70,28 +70,14 @@ module _ {count : ℕ} {xs : List ℕ} {n i : ℕ} (g : Searched count xs n i) w
   unfolding any
   search-ends h = g .rest ∙ rw (drop-of-length-le (take count (pairs xs)) {i = i} (omega (arith, g .all)))
 
--- the first i extents are neither outside nor too long together; their lengths sum to s
-pub record Walked (lim : Limits) (e : Entry) (xs : List ℕ) (n i s : ℕ) : Type 0 where
-  pub all : n ≡ length (take (e .«extent_count») (pairs xs))
-  pub below : i ≤ n
-  pub rest :
-      first (extentTests lim e (take (e .«extent_count») (pairs xs))) ≡
-      first (eachExtent lim e s (drop i (take (e .«extent_count») (pairs xs))) ∷
-      refuse 12 (not (eqb (s + total (drop i (take (e .«extent_count») (pairs xs)))) (e .capacity))) ∷ [])
+-- the committed extents in front of i pass their tests, and their lengths sum to s
+pub record Walking (lim : Limits) (e : Entry) (xs : List ℕ) (n i s : ℕ) : Type 0 where
+  pub walk : Walked (outside lim e) (committed e xs) n i s
 
-module _ (lim : Limits) (e : Entry) where
-  each-on : (x : Range) (ys : List Range) (s : ℕ) → outside lim e x ≡ false → ltb top (s + x .len) ≡ false → eachExtent lim e s (x ∷ ys) ≡ eachExtent lim e (s + x .len) ys
-  unfolding first refuse eachExtent
-  each-on x ys s o p = simp (o, p) (first-one (eachExtent lim e (s + x .len) ys))
-
-module _ (lim : Limits) (e : Entry) (xs : List ℕ) where
-  pub walk-begins : e .«extent_count» ≤ length (pairs xs) → Walked lim e xs (e .«extent_count») 0 0
-  walk-begins h = record { all = sym (length-take-le (e .«extent_count») (pairs xs) h); below = omega arith; rest = rw zero-add }
-
-module _ {lim : Limits} {e : Entry} {xs : List ℕ} {n i s : ℕ} (g : Walked lim e xs n i s) where
+module _ {lim : Limits} {e : Entry} {xs : List ℕ} {n i s : ℕ} (g : Walking lim e xs n i s) where
   module _ (l : i < n) where
-    h : i < length (take (e .«extent_count») (pairs xs))
-    h = omega (arith, g .all)
+    h : i < length (committed e xs)
+    h = omega (arith, g .walk .all)
 
     abbrev x : Range
     x = range (getD xs (2 * i) 0) (getD xs (2 * i + 1) 0)
@@ -99,27 +85,20 @@ module _ {lim : Limits} {e : Entry} {xs : List ℕ} {n i s : ℕ} (g : Walked li
     pub walk-in : 2 * i + 1 < length xs
     walk-in = extent-in (e .«extent_count») i xs h
 
-    pub walk-outside : outside lim e x ≡ true → first (extentTests lim e (take (e .«extent_count») (pairs xs))) ≡ 11
-    unfolding first refuse eachExtent
-    walk-outside o = g .rest ∙ rw (extent-next (e .«extent_count») i xs h) (simp o)
+    at : getD (committed e xs) i blank ≡ x
+    at = extent-at (e .«extent_count») i xs h
 
-    pub walk-over : outside lim e x ≡ false → ltb top (s + x .len) ≡ true → first (extentTests lim e (take (e .«extent_count») (pairs xs))) ≡ 12
-    unfolding first refuse eachExtent
-    walk-over o p = g .rest ∙ rw (extent-next (e .«extent_count») i xs h) (simp (o, p))
+    pub stops-outside : outside lim e x ≡ true → first (extentTests lim e (committed e xs)) ≡ 11
+    unfolding first
+    stops-outside o = rw (walk-outside (g .walk) l x at o)
 
-    pub walk-on : outside lim e x ≡ false → ltb top (s + x .len) ≡ false → Walked lim e xs n (i + 1) (s + x .len)
-    unfolding sum
-    walk-on o p =
-        let ys = drop (i + 1) (take (e .«extent_count») (pairs xs)) in
-        let a : s + (x .len + total ys) ≡ s + x .len + total ys = omega arith in
-        record {
-          all = g .all;
-          below = omega arith;
-          rest = g .rest ∙ rw (extent-next (e .«extent_count») i xs h, each-on lim e x ys s o p, a);
-        }
+    pub stops-over : outside lim e x ≡ false → ltb top (s + x .len) ≡ true → first (extentTests lim e (committed e xs)) ≡ 12
+    unfolding first
+    stops-over o p = rw (walk-over (g .walk) l x at o p)
 
-  pub walk-ends : n ≤ i → first (extentTests lim e (take (e .«extent_count») (pairs xs))) ≡ refuse 12 (not (eqb s (e .capacity)))
-  unfolding eachExtent sum first
-  walk-ends l =
-      let z : s + 0 ≡ s = omega arith in
-      g .rest ∙ rw (drop-of-length-le (take (e .«extent_count») (pairs xs)) {i = i} (omega (arith, g .all)), z) (first-one _)
+    pub goes-on : outside lim e x ≡ false → ltb top (s + x .len) ≡ false → Walking lim e xs n (i + 1) (s + x .len)
+    goes-on o p = record { walk = walk-on (g .walk) l x at o p }
+
+  pub passed-all : n ≤ i → first (extentTests lim e (committed e xs)) ≡ refuse 12 (not (eqb s (e .capacity)))
+  unfolding first
+  passed-all l = rw (walk-ends (g .walk) l, ← walk-sum (g .walk) l) (first-one _)

@@ -15,6 +15,7 @@ use Rattle.footprint.specs.declared.Verdict.the-variants.{Usable, Ahead,
 use Rattle.numbers.specs.Lists.{any, written}
 use Rattle.numbers.specs.Pairs.{isOdd, pairs, flat}
 use Rattle.numbers.specs.Range.{Range, range, meets, total}
+use Rattle.numbers.specs.Refusals.{refuse, first, eachExtent}
 use Rattle.numbers.specs.Sums.{top}
 use Rattle.sort.specs.Sort.{sorted}
 
@@ -102,20 +103,6 @@ outside lim e x =
     || ltb (x .offset) (e .«span_start»)
     || ltb (x .offset) (lim .«table_end»)
 
--- The refusal n where a test fails, 0 where it does not.
-unfoldable pub refuse : ℕ → Bool → ℕ
-refuse n fails = cond fails n 0
-
--- "Where several apply, the lowest number is given": the first in a list of rising numbers that is not 0.
-unfoldable pub first : List ℕ → ℕ
-first [] = 0
-first (n ∷ ns) = cond (eqb n 0) (first ns) n
-
--- "11 and 12's first half extent by extent": 12, "The sum of extents passes 2^64 - 1", is asked of the lengths up to each extent.
-unfoldable pub eachExtent : Limits → Entry → ℕ → List Range → ℕ
-eachExtent lim e before [] = 0
-eachExtent lim e before (x ∷ xs) = first (refuse 11 (outside lim e x) ∷ refuse 12 (ltb top (before + x .len)) ∷ eachExtent lim e (before + x .len) xs ∷ [])
-
 -- Some two ranges of a list meet.
 unfoldable pub overlaps : List Range → Bool
 overlaps [] = false
@@ -144,10 +131,10 @@ headerTests id e h =
     -- "Data size .. is no multiple of the header's block."
     refuse 10 (not (eqb (e .«data_size» % 2 ^ (h .«log2_block»)) 0)) ∷ []
 
--- 11 and 12, of which the second half is "The sum of extents .. isn't the capacity".
+-- 11 and 12 extent by extent, and 12's second half, "The sum of extents .. isn't the capacity".
 abbrev pub extentTests : Limits → Entry → List Range → List ℕ
 extentTests lim e xs =
-    eachExtent lim e 0 xs ∷
+    eachExtent (outside lim e) 0 xs ∷
     refuse 12 (not (eqb (total xs) (e .capacity))) ∷ []
 
 -- 13. "The footprint overlaps itself."

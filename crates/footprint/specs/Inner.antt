@@ -5,7 +5,7 @@ use mathlib.Core.List.{List, [], _∷_, _++_, map}
 use mathlib.Core.Path.{_≡_}
 use lib.Dec.{ltb, eqb}
 use lib.ListN.{length, getD, drop}
-use Rattle.footprint.specs.Footprint.{Answer, committed, footprintOf, first, entryTests, headerTests, extentTests}
+use Rattle.footprint.specs.Footprint.{Answer, committed, footprintOf, entryTests, headerTests, extentTests}
 use Rattle.footprint.specs.Runs.{Run, notEmpty, joinedTo, joined, runsOf}
 use Rattle.footprint.specs.declared.Entry.{Entry}
 use Rattle.footprint.specs.declared.Header.{Header}
@@ -13,6 +13,7 @@ use Rattle.footprint.specs.declared.Limits.{Limits}
 use Rattle.numbers.specs.Lists.{written}
 use Rattle.numbers.specs.Pairs.{flat}
 use Rattle.numbers.specs.Range.{Range, range, blank}
+use Rattle.numbers.specs.Refusals.{first}
 
 -- Every refusal but 13.
 unfoldable pub beforeLast : Limits → ℕ → Entry → Header → List ℕ → ℕ → ℕ

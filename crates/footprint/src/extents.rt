@@ -9,7 +9,8 @@ ghost use lib.Dec.{eqb};
 ghost use Rattle.numbers.specs.Range.{Range, range};
 ghost use Rattle.numbers.specs.Pairs.{pairs};
 ghost use Rattle.numbers.specs.Lists.{any};
-ghost use Rattle.footprint.specs.Footprint.{committed, extentTests, first};
+ghost use Rattle.footprint.specs.Footprint.{committed, extentTests};
+ghost use Rattle.numbers.specs.Refusals.{first};
 ghost use Rattle.footprint.specs.Footprint as spec;
 
 // Whether one of the first count extents has length 0; all of them, where there are fewer.

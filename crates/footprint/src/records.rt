@@ -8,7 +8,8 @@ use crate::max_extents;
 use numbers::passes;
 ghost use mathlib.Core.Path.{_≡_};
 ghost use Prim.Native.Nat.{_^_, _≤_, min, max};
-ghost use Rattle.footprint.specs.Footprint.{kindCode, listsFail, logsFail, blockFails, entryFails, countFails, headerTests, first};
+ghost use Rattle.footprint.specs.Footprint.{kindCode, listsFail, logsFail, blockFails, entryFails, countFails, headerTests};
+ghost use Rattle.numbers.specs.Refusals.{first};
 ghost use Rattle.footprint.specs.Footprint as spec;
 
 // A kind's number in the table.

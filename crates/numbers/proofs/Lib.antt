@@ -5,3 +5,4 @@ pub mod Ranges
 pub mod Pairs
 pub mod Order
 pub mod Powers
+pub mod Refusals

@@ -4,3 +4,4 @@ pub mod Order
 pub mod Sums
 pub mod Powers
 pub mod Lists
+pub mod Refusals

@@ -5,11 +5,12 @@ use mathlib.Core.Logic.{⊎-elim}
 use mathlib.Core.Path.{_≡_, sym, _∙_}
 use native.Mathlib.Omega.{arith}
 use borrow.Author.Needs.{needs}
-use Rattle.footprint.specs.Footprint.{first, entryTests, headerTests, extentTests, committed, refuse}
+use Rattle.footprint.specs.Footprint.{entryTests, headerTests, extentTests, committed}
 use Rattle.footprint.specs.Inner.{beforeLast}
+use Rattle.numbers.specs.Refusals.{first, refuse}
 use Rattle.footprint.proofs.Passed.{Logs, logs-pass, own-log, lists-pass, header-count}
-use Rattle.footprint.proofs.Tests.{first-go, first-stop}
 use Rattle.footprint.proofs.refusal_before.Statement.{statement}
+use Rattle.numbers.proofs.Refusals.{first-go, first-stop}
 use Rattle.footprint.proofs.refusal_before.Tie as tie
 
 logs : (c : tie.Else2) → Logs (c .before .before .before .before .before .args .limits) (c .before .before .before .before .before .args .header)

@@ -7,7 +7,8 @@ use lib.Dec.{eqb}
 use lib.Pow.{pow-pos}
 use borrow.Author.Needs.{needs}
 use borrow.Author.Tests.{eq-eqb, ne-eqb}
-use Rattle.footprint.specs.Footprint.{kindCode, first, refuse}
+use Rattle.footprint.specs.Footprint.{kindCode}
+use Rattle.numbers.specs.Refusals.{first, refuse}
 use Rattle.footprint.proofs.records.header_refusal.Statement.{statement}
 use Rattle.footprint.proofs.records.header_refusal.Tie as tie
 

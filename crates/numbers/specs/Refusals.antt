@@ -1,0 +1,22 @@
+-- Document 01, "Why a call is turned down": which of several refusals is given.
+use Prim.Native.Nat.{ℕ, _+_}
+use mathlib.Core.Bool.{Bool, cond}
+use mathlib.Core.List.{List, [], _∷_}
+use lib.Dec.{ltb, eqb}
+use Rattle.numbers.specs.Range.{Range}
+use Rattle.numbers.specs.Sums.{top}
+
+-- The refusal n where a test fails, 0 where it does not.
+unfoldable pub refuse : ℕ → Bool → ℕ
+refuse n fails = cond fails n 0
+
+-- "Where several apply, the lowest number is given": the first in a list of rising numbers that is not 0.
+unfoldable pub first : List ℕ → ℕ
+first [] = 0
+first (n ∷ ns) = cond (eqb n 0) (first ns) n
+
+-- "11 and 12's first half extent by extent": 11 by a test of the extent alone, 12, "The sum of extents passes 2^64 - 1", of
+-- the lengths up to each extent.
+unfoldable pub eachExtent : (Range → Bool) → ℕ → List Range → ℕ
+eachExtent outside before [] = 0
+eachExtent outside before (x ∷ xs) = first (refuse 11 (outside x) ∷ refuse 12 (ltb top (before + x .len)) ∷ eachExtent outside (before + x .len) xs ∷ [])
