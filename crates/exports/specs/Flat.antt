@@ -16,6 +16,11 @@ use Rattle.footprint.specs.declared.Limits.{Limits}
 use Rattle.footprint.specs.declared.RegionKind.{RegionKind}
 use Rattle.footprint.specs.declared.RegionKind.the-variants.{Append, Page, Slot}
 use Rattle.numbers.specs.Range.{Range}
+use Rattle.regionmap.specs.Map.{Answered, placeOf}
+use Rattle.regionmap.specs.declared.Located.{Located}
+use Rattle.regionmap.specs.declared.Mapped.{Mapped}
+use Rattle.regionmap.specs.declared.Mapped.the-variants.{Map, Refused}
+use Rattle.regionmap.specs.declared.RegionMap.{RegionMap}
 
 -- A number: 1 and the number. None: 0 and 0.
 abbrev pub flatOf : Option ℕ → FlatOption
@@ -63,3 +68,32 @@ pub record FlatChecked (lim : Limits) (id : ℕ) (e : Entry) (h : Header) (xs s�
   pub part : List ℕ
   pub count : n ≡ length part
   pub checked : Checked lim id e h xs s₀ part refusal old extra
+
+abbrev pub mapFrom : ℕ → ℕ → ℕ → ℕ → ℕ → RegionMap
+mapFrom f l cap n r = record { first = f; len = l; capacity = cap; count = n; room = r }
+
+-- 0 and the map handed back, or the refusal and the map as it was.
+abbrev pub numberOf : Mapped → ℕ
+numberOf (Map m) = 0
+numberOf (Refused n) = n
+
+abbrev pub mapOr : RegionMap → Mapped → RegionMap
+mapOr old (Map m) = m
+mapOr old (Refused n) = old
+
+pub record HandedOut (a : Mapped) (refusal : ℕ) (old new : RegionMap) : Type 0 where
+  pub number : refusal ≡ numberOf a
+  pub map : new ≡ mapOr old a
+
+-- An answer of which P holds, handed out.
+pub record FlatMapped (P : Mapped → Type 0) (refusal : ℕ) (old new : RegionMap) : Type 0 where
+  pub mapped : Mapped
+  pub promise : P mapped
+  pub handed : HandedOut mapped refusal old new
+
+-- What `locate` promises, of a refusal and a byte.
+pub record FlatPlace (m : RegionMap) (p n : ℕ) (ss fs : List ℕ) (r : FlatAnswer) : Type 0 where
+  pub place : Located
+  pub promise : Answered m p n ss fs place
+  pub number : r .refusal ≡ placeOf place .number
+  pub byte : r .value ≡ placeOf place .byte

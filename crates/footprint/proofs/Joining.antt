@@ -152,10 +152,10 @@ module _ (xs s₀ f₀ l₀ : List ℕ) where
 
 -- one more run in one of the lists
 module _ (p : Run → ℕ) (done : List Run) (s₀ s : List ℕ) (k : ℕ) (c : length done ≡ k) (e : s ≡ written (map p done) s₀) where
-  fills : (r : Run) → k < length s₀ → set s k (p r) ≡ written (map p (done ++ (r ∷ []))) s₀
+  pub fills : (r : Run) → k < length s₀ → set s k (p r) ≡ written (map p (done ++ (r ∷ []))) s₀
   fills r h = rw (e, map-append p done (r ∷ [])) (written-next (map p done) s₀ k (p r) (length-map done p ∙ c) h)
 
-  same-length : k ≤ length s₀ → length s ≡ length s₀
+  pub same-length : k ≤ length s₀ → length s ≡ length s₀
   same-length h = rw e (written-length (map p done) s₀ (rw (length-map done p, c) h))
 
 module _ {xs s₀ s f₀ f l₀ l : List ℕ} {n start k i : ℕ} (g : Joining xs s₀ s f₀ f l₀ l n start k i) where

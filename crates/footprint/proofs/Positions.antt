@@ -75,12 +75,12 @@ total-joinedTo r (x ∷ xs) =
     cases (joins r x) (λ e. simp e (let i = total-joinedTo (range (r .offset) (r .len + x .len)) xs in omega arith))
     (λ e. simp e (let i = total-joinedTo x xs in omega arith))
 
-total-joined : (xs : List Range) → total (joined xs) ≡ total xs
+pub total-joined : (xs : List Range) → total (joined xs) ≡ total xs
 unfolding joined sum
 total-joined [] = refl
 total-joined (x ∷ xs) = total-joinedTo x xs
 
-total-notEmpty : (xs : List Range) → total (notEmpty xs) ≡ total xs
+pub total-notEmpty : (xs : List Range) → total (notEmpty xs) ≡ total xs
 unfolding notEmpty sum
 total-notEmpty [] = refl
 total-notEmpty (x ∷ xs) =

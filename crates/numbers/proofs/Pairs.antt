@@ -2,13 +2,15 @@
 use Prim.Native.Nat.{ℕ, zero, suc, _+_, _*_, _/_, _%_, _<_}
 use mathlib.Core.Bool.{true, false}
 use mathlib.Core.List.{List, [], _∷_, _++_}
-use mathlib.Core.Path.{_≡_, refl, ap}
+use mathlib.Core.Path.{_≡_, refl, ap, sym, _∙_}
 use native.Mathlib.Nat.{not-suc-le-zero}
 use native.Mathlib.Omega.{arith}
-use lib.ListN.{length, getD, take, drop, set}
+use lib.ListN.{length, getD, take, drop, set, length-append}
 use borrow.Author.Tests.{eq-eqb, ne-eqb}
+use Rattle.numbers.specs.Lists.{written}
 use Rattle.numbers.specs.Pairs.{isOdd, pairs, flat}
 use Rattle.numbers.specs.Range.{Range, range, blank}
+use Rattle.numbers.proofs.Lists.{written-next}
 
 two-suc : (i : ℕ) → 2 * suc i ≡ suc (suc (2 * i))
 two-suc i = omega arith
@@ -85,3 +87,17 @@ pairs-drop zero l = refl
 pairs-drop (suc k) [] = rw (two-suc k)
 pairs-drop (suc k) (o ∷ []) = rw (two-suc k)
 pairs-drop (suc k) (o ∷ n ∷ l) = rw (two-suc k) (pairs-drop k l)
+
+-- one more pair, written behind those in front
+pub flat-next : (rs : List Range) (r : Range) → flat (rs ++ (r ∷ [])) ≡ flat rs ++ (r .offset ∷ []) ++ (r .len ∷ [])
+unfolding flat
+flat-next [] r = refl
+flat-next (q ∷ rs) r = ap (λ (t : List ℕ). q .offset ∷ q .len ∷ t) (flat-next rs r)
+
+pub pair-written : (rs : List Range) (s : List ℕ) (i a b : ℕ) → length rs ≡ i → 2 * i + 1 < length s → set (set (written (flat rs) s) (2 * i) a) (2 * i + 1) b ≡ written (flat (rs ++ (range a b ∷ []))) s
+pair-written rs s i a b e h =
+    let l : length (flat rs) ≡ 2 * i = length-flat rs ∙ omega arith in
+    let m : length (flat rs ++ (a ∷ [])) ≡ 2 * i + 1 = length-append (flat rs) (a ∷ []) ∙ omega arith in
+    ap (λ (t : List ℕ). set t (2 * i + 1) b) (written-next (flat rs) s (2 * i) a l (omega arith))
+    ∙ written-next (flat rs ++ (a ∷ [])) s (2 * i + 1) b m h
+    ∙ ap (λ (t : List ℕ). written t s) (sym (flat-next rs (range a b)))

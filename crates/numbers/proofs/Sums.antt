@@ -1,9 +1,10 @@
 -- Sums over lists, and sums that stop at 2^64 - 1.
 use Prim.Native.Nat.{ℕ, zero, suc, _+_, _≤_}
-use mathlib.Core.List.{List, [], _∷_, _++_}
+use mathlib.Core.List.{List, [], _∷_, _++_, map-append}
 use mathlib.Core.Path.{_≡_, ap, sym, _∙_}
 use native.Mathlib.Omega.{arith}
 use lib.ListN.{getD, take, drop, take-append-drop}
+use Rattle.numbers.specs.Range.{Range, total}
 use Rattle.numbers.specs.Sums.{top, stop, sum}
 
 pub sum-append : (xs ys : List ℕ) → sum (xs ++ ys) ≡ sum xs + sum ys
@@ -29,3 +30,17 @@ stop-exact n h = omega arith
 
 pub stop-mono : (a b : ℕ) → a ≤ b → stop a ≤ stop b
 stop-mono a b h = omega arith
+
+-- the lengths of ranges together
+pub total-append : (xs ys : List Range) → total (xs ++ ys) ≡ total xs + total ys
+total-append xs ys = ap sum (map-append (λ (r : Range). r .len) xs ys) ∙ sum-append _ _
+
+pub total-one : (xs : List Range) (x : Range) → total (xs ++ (x ∷ [])) ≡ total xs + x .len
+unfolding sum
+total-one xs x = let e = total-append xs (x ∷ []) in omega arith
+
+pub total-take : (n : ℕ) (xs : List Range) → total (take n xs) ≤ total xs
+total-take n xs =
+    let e = total-append (take n xs) (drop n xs) in
+    let t = ap total (take-append-drop n xs) in
+    omega arith

@@ -1,0 +1,68 @@
+-- `exports::map::fundravai_map_publish_each` meets its contract: the loop ends.
+use Prim.Native.Nat.{_-_, _≤_}
+use native.Mathlib.Omega.{arith}
+use lib.ListN.{length}
+use borrow.Author.Needs.{needs}
+use Rattle.exports.proofs.map.fundravai_map_publish_each.Statement.{statement}
+use Rattle.exports.proofs.map.fundravai_map_publish_each.Tie as tie
+
+abbrev Inv-loop : tie.InvT-loop
+Inv-loop lens first published capacity count room map₀ i₀ map i = i ≤ length lens
+
+abbrev μ-loop : tie.MeasureT-loop
+μ-loop lens first published capacity count room map₀ i₀ map i = length lens - i
+
+loop-holds : tie.Need-loop-holds Inv-loop μ-loop
+loop-holds c = omega arith
+
+mul-publish-len : tie.Need-mul-publish-len Inv-loop μ-loop
+mul-publish-len c = omega (arith, c .loop-test .taken)
+
+shared-slice-read-publish-len : tie.Need-shared-slice-read-publish-len Inv-loop μ-loop
+shared-slice-read-publish-len c = omega (arith, c .before .loop-test .taken)
+
+publish-len-requires : tie.Need-publish-len-requires Inv-loop μ-loop
+publish-len-requires c κs = search needs
+
+enum-known-mapped : tie.Need-enum-known-mapped Inv-loop μ-loop
+enum-known-mapped c = search needs
+
+enum-told : tie.Need-enum-told Inv-loop μ-loop
+enum-told c = search needs
+
+returns : tie.Need-returns Inv-loop μ-loop
+returns c = search needs
+
+add-i : tie.Need-add-i Inv-loop μ-loop
+add-i c = omega (arith, c .before .before .before .before .before .loop-test .taken)
+
+loop-less : tie.Need-loop-less Inv-loop μ-loop
+loop-less c = omega (arith, c .before .before .before .before .before .loop-test .taken)
+
+loop-again : tie.Need-loop-again Inv-loop μ-loop
+loop-again c = omega (arith, c .before .before .before .before .before .loop-test .taken)
+
+hand-out-requires : tie.Need-hand-out-requires Inv-loop μ-loop
+hand-out-requires c κs = search needs
+
+returns-2 : tie.Need-returns-2 Inv-loop μ-loop
+returns-2 c = search needs
+
+pub fundravai-map-publish-each-spec : {M : Type 1} → statement M
+fundravai-map-publish-each-spec =
+    tie.close
+    (tie.spec
+    Inv-loop
+    μ-loop
+    loop-holds
+    mul-publish-len
+    shared-slice-read-publish-len
+    publish-len-requires
+    enum-known-mapped
+    enum-told
+    returns
+    add-i
+    loop-less
+    loop-again
+    hand-out-requires
+    returns-2)

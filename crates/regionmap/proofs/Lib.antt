@@ -1,0 +1,11 @@
+pub mod Order
+pub mod Halving
+pub mod Records
+pub mod Means
+pub mod Extents
+pub mod Bytes
+pub mod Lookup
+pub mod Growing
+pub mod Building
+pub mod Listing
+pub mod Making

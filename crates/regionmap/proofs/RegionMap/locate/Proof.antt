@@ -1,0 +1,100 @@
+-- `regionmap::RegionMap::locate` meets its contract: each return is a case of `locateOf`.
+use Prim.Native.Nat.{ℕ, suc, _+_, _-_, _≤_}
+use mathlib.Core.Bool.{false}
+use mathlib.Core.Path.{_≡_, ap, sym, subst, _∙_}
+use native.Mathlib.Omega.{arith}
+use lib.Dec.{ltb}
+use borrow.Author.Needs.{needs}
+use borrow.Author.Tests.{ltb-false}
+use Rattle.regionmap.specs.Inner.{Found}
+use Rattle.regionmap.specs.Map.{placementOf}
+use Rattle.regionmap.proofs.Lookup.{lists-pass, lists-fail, found-end, found-first, found-later, locate-few, locate-past, locate-across, locate-at}
+use Rattle.regionmap.proofs.RegionMap.locate.Statement.{statement}
+use Rattle.regionmap.proofs.RegionMap.locate.Tie as tie
+
+within : (e p n : ℕ) → ltb e (p + n) ≡ false → p ≤ e
+within e p n h = let l : p + n ≤ e = ltb-false _ _ h in omega arith
+
+one-less : (k : ℕ) → (k ≡ 0 → ⊥) → k ≡ suc (k - 1)
+one-less k d = omega (arith, d)
+
+lists-fail-requires : tie.Need-lists-fail-requires
+lists-fail-requires c κs = search needs
+
+returns : tie.Need-returns
+returns c = record { answer = λ v. locate-few (placementOf (c .before .before .before .before .args .self) (c .before .before .before .before .args .starts .now) (c .before .before .before .before .args .files .now)) (c .before .before .before .before .args .pos) (c .before .before .before .before .args .n) (c .before .before .before .before .args .starts .now) (c .before .before .before .before .args .files .now) (lists-fail (c .before .before .before .before .args .self) (c .before .before .before .before .args .starts .now) (c .before .before .before .before .args .files .now) v (sym (c .before .lists-fail .ensures) ∙ c .if1 .taken)) }
+
+passes-requires : tie.Need-passes-requires
+passes-requires c κs = search needs
+
+returns-2 : tie.Need-returns-2
+returns-2 c = record { answer = λ v. locate-past (placementOf (c .before .before .before .before .before .before .args .self) (c .before .before .before .before .before .before .args .starts .now) (c .before .before .before .before .before .before .args .files .now)) (c .before .before .before .before .before .before .args .pos) (c .before .before .before .before .before .before .args .n) (c .before .before .before .before .before .before .args .starts .now) (c .before .before .before .before .before .before .args .files .now) (lists-pass (c .before .before .before .before .before .before .args .self) (c .before .before .before .before .before .before .args .starts .now) (c .before .before .before .before .before .before .args .files .now) (sym (c .before .before .before .lists-fail .ensures) ∙ c .before .before .if1 .left) .places) (sym (c .before .passes .ensures) ∙ c .if2 .taken) }
+
+find-requires : tie.Need-find-requires
+find-requires c κs = lists-pass (c .before .before .before .before .before .before .args .self) (c .before .before .before .before .before .before .args .starts .now) (c .before .before .before .before .before .before .args .files .now) (sym (c .before .before .before .lists-fail .ensures) ∙ c .before .before .if1 .left) .starts
+
+run-end-requires : tie.Need-run-end-requires
+run-end-requires c κs = lists-pass (c .before .before .before .before .before .before .before .args .self) (c .before .before .before .before .before .before .before .args .starts .now) (c .before .before .before .before .before .before .before .args .files .now) (sym (c .before .before .before .before .lists-fail .ensures) ∙ c .before .before .before .if1 .left) .starts
+
+passes-requires-2 : tie.Need-passes-requires-2
+passes-requires-2 c κs = search needs
+
+returns-3 : tie.Need-returns-3
+returns-3 c = record { answer = λ v. locate-across (placementOf (c .before .before .before .before .before .before .before .before .before .before .args .self) (c .before .before .before .before .before .before .before .before .before .before .args .starts .now) (c .before .before .before .before .before .before .before .before .before .before .args .files .now)) (c .before .before .before .before .before .before .before .before .before .before .args .pos) (c .before .before .before .before .before .before .before .before .before .before .args .n) (c .before .before .before .before .before .before .before .before .before .before .args .starts .now) (c .before .before .before .before .before .before .before .before .before .before .args .files .now) (lists-pass (c .before .before .before .before .before .before .before .before .before .before .args .self) (c .before .before .before .before .before .before .before .before .before .before .args .starts .now) (c .before .before .before .before .before .before .before .before .before .before .args .files .now) (sym (c .before .before .before .before .before .before .before .lists-fail .ensures) ∙ c .before .before .before .before .before .before .if1 .left) .places) (sym (c .before .before .before .before .before .passes .ensures) ∙ c .before .before .before .before .if2 .left) (ap (λ (e : ℕ). ltb e (c .before .before .before .before .before .before .before .before .before .before .args .pos + c .before .before .before .before .before .before .before .before .before .before .args .n)) (found-end (c .before .before .before .before .before .before .before .before .before .before .args .self) (c .before .before .before .before .before .before .before .before .before .before .args .starts .now) (c .before .before .before .before .before .before .before .before .before .before .args .files .now) v (c .before .before .before .before .before .before .before .before .before .before .args .pos) _ _ (c .before .before .before .find .ensures) (c .before .before .run-end .ensures)) ∙ sym (c .before .passes2 .ensures) ∙ c .if3 .taken) }
+
+add-stop-requires : tie.Need-add-stop-requires
+add-stop-requires c κs = search needs
+
+returns-4 : tie.Need-returns-4
+returns-4 c = record { answer = λ v. rw (c .add-stop .ensures) (locate-at (placementOf (c .before .before .before .before .before .before .before .before .before .before .before .before .args .self) (c .before .before .before .before .before .before .before .before .before .before .before .before .args .starts .now) (c .before .before .before .before .before .before .before .before .before .before .before .before .args .files .now)) (c .before .before .before .before .before .before .before .before .before .before .before .before .args .pos) (c .before .before .before .before .before .before .before .before .before .before .before .before .args .n) (c .before .before .before .before .before .before .before .before .before .before .before .before .args .starts .now) (c .before .before .before .before .before .before .before .before .before .before .before .before .args .files .now) (lists-pass (c .before .before .before .before .before .before .before .before .before .before .before .before .args .self) (c .before .before .before .before .before .before .before .before .before .before .before .before .args .starts .now) (c .before .before .before .before .before .before .before .before .before .before .before .before .args .files .now) (sym (c .before .before .before .before .before .before .before .before .before .lists-fail .ensures) ∙ c .before .before .before .before .before .before .before .before .if1 .left) .places) (sym (c .before .before .before .before .before .before .before .passes .ensures) ∙ c .before .before .before .before .before .before .if2 .left) (ap (λ (e : ℕ). ltb e (c .before .before .before .before .before .before .before .before .before .before .before .before .args .pos + c .before .before .before .before .before .before .before .before .before .before .before .before .args .n)) (found-end (c .before .before .before .before .before .before .before .before .before .before .before .before .args .self) (c .before .before .before .before .before .before .before .before .before .before .before .before .args .starts .now) (c .before .before .before .before .before .before .before .before .before .before .before .before .args .files .now) v (c .before .before .before .before .before .before .before .before .before .before .before .before .args .pos) _ _ (c .before .before .before .before .before .find .ensures) (c .before .before .before .before .run-end .ensures)) ∙ sym (c .before .before .before .passes2 .ensures) ∙ c .before .before .if3 .left) _ (found-first (c .before .before .before .before .before .before .before .before .before .before .before .before .args .self) (c .before .before .before .before .before .before .before .before .before .before .before .before .args .starts .now) (c .before .before .before .before .before .before .before .before .before .before .before .before .args .files .now) v (c .before .before .before .before .before .before .before .before .before .before .before .before .args .pos) (subst (Found (c .before .before .before .before .before .before .before .before .before .before .before .before .args .starts .now) (c .before .before .before .before .before .before .before .before .before .before .before .before .args .self .count) (c .before .before .before .before .before .before .before .before .before .before .before .before .args .pos)) (c .before .if4 .taken) (c .before .before .before .before .before .find .ensures)) (within _ (c .before .before .before .before .before .before .before .before .before .before .before .before .args .pos) (c .before .before .before .before .before .before .before .before .before .before .before .before .args .n) (ap (λ (e : ℕ). ltb e (c .before .before .before .before .before .before .before .before .before .before .before .before .args .pos + c .before .before .before .before .before .before .before .before .before .before .before .before .args .n)) (found-end (c .before .before .before .before .before .before .before .before .before .before .before .before .args .self) (c .before .before .before .before .before .before .before .before .before .before .before .before .args .starts .now) (c .before .before .before .before .before .before .before .before .before .before .before .before .args .files .now) v (c .before .before .before .before .before .before .before .before .before .before .before .before .args .pos) _ _ (c .before .before .before .before .before .find .ensures) (c .before .before .before .before .run-end .ensures)) ∙ sym (c .before .before .before .passes2 .ensures) ∙ c .before .before .if3 .left)))) }
+
+sub-add-stop : tie.Need-sub-add-stop
+sub-add-stop c = let e = lists-pass (c .before .before .before .before .before .before .before .before .before .before .before .args .self) (c .before .before .before .before .before .before .before .before .before .before .before .args .starts .now) (c .before .before .before .before .before .before .before .before .before .before .before .args .files .now) (sym (c .before .before .before .before .before .before .before .before .lists-fail .ensures) ∙ c .before .before .before .before .before .before .before .if1 .left) in omega (arith, e .starts, e .files, c .before .before .before .before .find .ensures .inside, c .if4 .left)
+
+mul-add-stop : tie.Need-mul-add-stop
+mul-add-stop c = let e = lists-pass (c .before .before .before .before .before .before .before .before .before .before .before .args .self) (c .before .before .before .before .before .before .before .before .before .before .before .args .starts .now) (c .before .before .before .before .before .before .before .before .before .before .before .args .files .now) (sym (c .before .before .before .before .before .before .before .before .lists-fail .ensures) ∙ c .before .before .before .before .before .before .before .if1 .left) in omega (arith, e .starts, e .files, c .before .before .before .before .find .ensures .inside, c .if4 .left)
+
+shared-slice-read-add-stop : tie.Need-shared-slice-read-add-stop
+shared-slice-read-add-stop c = let e = lists-pass (c .before .before .before .before .before .before .before .before .before .before .before .before .args .self) (c .before .before .before .before .before .before .before .before .before .before .before .before .args .starts .now) (c .before .before .before .before .before .before .before .before .before .before .before .before .args .files .now) (sym (c .before .before .before .before .before .before .before .before .before .lists-fail .ensures) ∙ c .before .before .before .before .before .before .before .before .if1 .left) in omega (arith, e .starts, e .files, c .before .before .before .before .before .find .ensures .inside, c .before .if4 .left)
+
+sub-add-stop-2 : tie.Need-sub-add-stop-2
+sub-add-stop-2 c = let e = lists-pass (c .before .before .before .before .before .before .before .before .before .before .before .before .args .self) (c .before .before .before .before .before .before .before .before .before .before .before .before .args .starts .now) (c .before .before .before .before .before .before .before .before .before .before .before .before .args .files .now) (sym (c .before .before .before .before .before .before .before .before .before .lists-fail .ensures) ∙ c .before .before .before .before .before .before .before .before .if1 .left) in omega (arith, e .starts, e .files, c .before .before .before .before .before .find .ensures .inside, c .before .if4 .left)
+
+mul-add-stop-2 : tie.Need-mul-add-stop-2
+mul-add-stop-2 c = let e = lists-pass (c .before .before .before .before .before .before .before .before .before .before .before .before .args .self) (c .before .before .before .before .before .before .before .before .before .before .before .before .args .starts .now) (c .before .before .before .before .before .before .before .before .before .before .before .before .args .files .now) (sym (c .before .before .before .before .before .before .before .before .before .lists-fail .ensures) ∙ c .before .before .before .before .before .before .before .before .if1 .left) in omega (arith, e .starts, e .files, c .before .before .before .before .before .find .ensures .inside, c .before .if4 .left)
+
+shared-slice-read-add-stop-2 : tie.Need-shared-slice-read-add-stop-2
+shared-slice-read-add-stop-2 c = let e = lists-pass (c .before .before .before .before .before .before .before .before .before .before .before .before .before .args .self) (c .before .before .before .before .before .before .before .before .before .before .before .before .before .args .starts .now) (c .before .before .before .before .before .before .before .before .before .before .before .before .before .args .files .now) (sym (c .before .before .before .before .before .before .before .before .before .before .lists-fail .ensures) ∙ c .before .before .before .before .before .before .before .before .before .if1 .left) in omega (arith, e .starts, e .files, c .before .before .before .before .before .before .find .ensures .inside, c .before .before .if4 .left)
+
+sub-add-stop-3 : tie.Need-sub-add-stop-3
+sub-add-stop-3 c = c .before .before .before .before .before .before .find .ensures .below (omega (arith, c .before .before .if4 .left))
+
+add-stop-requires-2 : tie.Need-add-stop-requires-2
+add-stop-requires-2 c κs = search needs
+
+returns-5 : tie.Need-returns-5
+returns-5 c = record { answer = λ v. rw (c .add-stop2 .ensures) (locate-at (placementOf (c .before .before .before .before .before .before .before .before .before .before .before .before .before .before .args .self) (c .before .before .before .before .before .before .before .before .before .before .before .before .before .before .args .starts .now) (c .before .before .before .before .before .before .before .before .before .before .before .before .before .before .args .files .now)) (c .before .before .before .before .before .before .before .before .before .before .before .before .before .before .args .pos) (c .before .before .before .before .before .before .before .before .before .before .before .before .before .before .args .n) (c .before .before .before .before .before .before .before .before .before .before .before .before .before .before .args .starts .now) (c .before .before .before .before .before .before .before .before .before .before .before .before .before .before .args .files .now) (lists-pass (c .before .before .before .before .before .before .before .before .before .before .before .before .before .before .args .self) (c .before .before .before .before .before .before .before .before .before .before .before .before .before .before .args .starts .now) (c .before .before .before .before .before .before .before .before .before .before .before .before .before .before .args .files .now) (sym (c .before .before .before .before .before .before .before .before .before .before .before .lists-fail .ensures) ∙ c .before .before .before .before .before .before .before .before .before .before .if1 .left) .places) (sym (c .before .before .before .before .before .before .before .before .before .passes .ensures) ∙ c .before .before .before .before .before .before .before .before .if2 .left) (ap (λ (e : ℕ). ltb e (c .before .before .before .before .before .before .before .before .before .before .before .before .before .before .args .pos + c .before .before .before .before .before .before .before .before .before .before .before .before .before .before .args .n)) (found-end (c .before .before .before .before .before .before .before .before .before .before .before .before .before .before .args .self) (c .before .before .before .before .before .before .before .before .before .before .before .before .before .before .args .starts .now) (c .before .before .before .before .before .before .before .before .before .before .before .before .before .before .args .files .now) v (c .before .before .before .before .before .before .before .before .before .before .before .before .before .before .args .pos) _ _ (c .before .before .before .before .before .before .before .find .ensures) (c .before .before .before .before .before .before .run-end .ensures)) ∙ sym (c .before .before .before .before .before .passes2 .ensures) ∙ c .before .before .before .before .if3 .left) _ (found-later (c .before .before .before .before .before .before .before .before .before .before .before .before .before .before .args .self) (c .before .before .before .before .before .before .before .before .before .before .before .before .before .before .args .starts .now) (c .before .before .before .before .before .before .before .before .before .before .before .before .before .before .args .files .now) v (c .before .before .before .before .before .before .before .before .before .before .before .before .before .before .args .pos) _ (omega (arith, c .before .before .before .before .before .before .before .find .ensures .inside, c .before .before .before .if4 .left)) (subst (Found (c .before .before .before .before .before .before .before .before .before .before .before .before .before .before .args .starts .now) (c .before .before .before .before .before .before .before .before .before .before .before .before .before .before .args .self .count) (c .before .before .before .before .before .before .before .before .before .before .before .before .before .before .args .pos)) (one-less _ (c .before .before .before .if4 .left)) (c .before .before .before .before .before .before .before .find .ensures)) (within _ (c .before .before .before .before .before .before .before .before .before .before .before .before .before .before .args .pos) (c .before .before .before .before .before .before .before .before .before .before .before .before .before .before .args .n) (ap (λ (e : ℕ). ltb e (c .before .before .before .before .before .before .before .before .before .before .before .before .before .before .args .pos + c .before .before .before .before .before .before .before .before .before .before .before .before .before .before .args .n)) (found-end (c .before .before .before .before .before .before .before .before .before .before .before .before .before .before .args .self) (c .before .before .before .before .before .before .before .before .before .before .before .before .before .before .args .starts .now) (c .before .before .before .before .before .before .before .before .before .before .before .before .before .before .args .files .now) v (c .before .before .before .before .before .before .before .before .before .before .before .before .before .before .args .pos) _ _ (c .before .before .before .before .before .before .before .find .ensures) (c .before .before .before .before .before .before .run-end .ensures)) ∙ sym (c .before .before .before .before .before .passes2 .ensures) ∙ c .before .before .before .before .if3 .left)))) }
+
+pub locate-spec : {M : Type 1} → statement M
+locate-spec =
+    tie.close
+    (tie.spec
+    lists-fail-requires
+    returns
+    passes-requires
+    returns-2
+    find-requires
+    run-end-requires
+    passes-requires-2
+    returns-3
+    add-stop-requires
+    returns-4
+    sub-add-stop
+    mul-add-stop
+    shared-slice-read-add-stop
+    sub-add-stop-2
+    mul-add-stop-2
+    shared-slice-read-add-stop-2
+    sub-add-stop-3
+    add-stop-requires-2
+    returns-5)
