@@ -1,9 +1,15 @@
 -- The halving search: which of the first count starts are at or below a position.
-use Prim.Native.Nat.{ℕ, _+_, _-_, _/_, _≤_, _<_}
+use Prim.Native.Nat.{ℕ, _+_, _-_, _*_, _/_, _%_, _^_, _≤_, _<_}
+use mathlib.Core.Bool.{Bool, true, false, cond}
 use mathlib.Core.List.{List}
+use mathlib.Core.Path.{_≡_}
 use native.Mathlib.Omega.{arith}
+use lib.Dec.{leb}
 use lib.ListN.{length, getD}
+use borrow.Author.Tests.{lt-leb, le-leb}
 use Rattle.regionmap.specs.Inner.{Rising, Found}
+use Rattle.numbers.proofs.Cases.{by-lt}
+use mir.Val.{boolByte}
 
 -- from lo on, at most n more starts are at or below p
 pub record Halving (ss : List ℕ) (count p lo n : ℕ) : Type 0 where
@@ -23,15 +29,19 @@ halving-begins ss count p h =
 
 module _ {ss : List ℕ} {count p lo n : ℕ} (g : Halving ss count p lo n) where
   module _ (l : 0 < n) where
-    abbrev mid : ℕ
-    mid = lo + (n - n / 2)
+    abbrev step : ℕ
+    step = n - n / 2
 
-    pub halving-in : mid - 1 < length ss
+    pub halving-in : lo + step - 1 < length ss
     halving-in = omega (arith, g .inside, g .enough)
 
+    -- twice the step is at most one more than what is left
+    pub halving-short : lo + step + step ≤ length ss + 1
+    halving-short = omega (arith, g .inside, g .enough)
+
     -- the start in the middle is at or below p
-    pub halving-up : getD ss (mid - 1) 0 ≤ p → Halving ss count p mid (n / 2)
-    halving-up h =
+    up : getD ss (lo + step - 1) 0 ≤ p → Halving ss count p (lo + step) (n / 2)
+    up h =
         record {
           enough = g .enough;
           inside = omega (arith, g .inside);
@@ -40,14 +50,20 @@ module _ {ss : List ℕ} {count p lo n : ℕ} (g : Halving ss count p lo n) wher
         }
 
     -- it is above p, and so are those behind it
-    pub halving-down : p < getD ss (mid - 1) 0 → Halving ss count p lo (n / 2)
-    halving-down h =
+    down : p < getD ss (lo + step - 1) 0 → Halving ss count p lo (n / 2)
+    down h =
         record {
           enough = g .enough;
           inside = omega (arith, g .inside);
           below = g .below;
-          above = λ r j a b. let o = r (mid - 1) j (omega (arith, a)) b in omega (arith, h, o);
+          above = λ r j a b. let o = r (lo + step - 1) j (omega (arith, a)) b in omega (arith, h, o);
         }
+
+    pub halving-on : (next : ℕ) → next ≡ cond (leb (getD ss (lo + step - 1) 0) p) (lo + step) lo → Halving ss count p next (n / 2)
+    halving-on next e =
+        by-lt p (getD ss (lo + step - 1) 0)
+        (λ h. rw e (simp (lt-leb (getD ss (lo + step - 1) 0) p h) (down h)))
+        (λ h. rw e (simp (le-leb (getD ss (lo + step - 1) 0) p h) (up h)))
 
   pub halving-ends : n ≤ 0 → Found ss count p lo
   halving-ends l =
@@ -56,3 +72,8 @@ module _ {ss : List ℕ} {count p lo n : ℕ} (g : Halving ss count p lo n) wher
         below = g .below;
         above = λ r j a b. g .above r j (omega (arith, a)) b;
       }
+
+-- a step shifted by one bit or by none
+pub shifted : (step : ℕ) (b : Bool) → step + step < 2 ^ 64 → step * 2 ^ boolByte b % 2 ^ 64 ≡ cond b (step + step) step
+shifted step true h = omega arith
+shifted step false h = omega arith

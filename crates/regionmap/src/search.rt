@@ -1,7 +1,20 @@
 // The search for a position's run among plain starts.
-ghost use Prim.Native.Nat.{_≤_};
+ghost use mathlib.Core.Path.{_≡_};
+ghost use mathlib.Core.Bool.{cond};
+ghost use Prim.Native.Nat.{_+_, _^_, _≤_, _<_};
+ghost use lib.Dec.{leb};
 ghost use lib.ListN.{length};
 ghost use Rattle.regionmap.specs.Inner.{Found};
+
+// lo + step where start is at or below pos, else lo. By a shift and not by a branch, which would be
+// guessed wrong every other time.
+fn advance(lo: usize, step: usize, start: u64, pos: u64) -> usize
+    requires { ⌜ lo + step + step < 2 ^ 64 ⌝ }
+    ensures { λ r. ⌜ r ≡ cond (leb start pos) (lo + step) lo ⌝ }
+{
+    let up = (start <= pos) as usize;
+    lo + ((step << up) - step)
+}
 
 // How many of the first count starts are at or below pos, where they are in order.
 pub(crate) fn find(starts: &[u64], count: usize, pos: u64) -> usize
@@ -11,13 +24,9 @@ pub(crate) fn find(starts: &[u64], count: usize, pos: u64) -> usize
     let mut lo = 0;
     let mut n = count;
     while n > 0 {
-        // the later half of what is left, and where it begins
-        let half = n / 2;
-        let mid = lo + (n - half);
-        if starts[mid - 1] <= pos {
-            lo = mid;
-        }
-        n = half;
+        let step = n - n / 2;
+        lo = advance(lo, step, starts[lo + step - 1], pos);
+        n /= 2;
     }
     lo
 }

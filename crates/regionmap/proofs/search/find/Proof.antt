@@ -1,6 +1,6 @@
 -- `regionmap::search::find` meets its contract: each turn keeps what may still be sought.
 use native.Mathlib.Omega.{arith}
-use Rattle.regionmap.proofs.Halving.{Halving, halving-begins, halving-in, halving-up, halving-down, halving-ends}
+use Rattle.regionmap.proofs.Halving.{Halving, halving-begins, halving-in, halving-short, halving-on, halving-ends}
 use Rattle.regionmap.proofs.search.find.Statement.{statement}
 use Rattle.regionmap.proofs.search.find.Tie as tie
 
@@ -11,34 +11,31 @@ abbrev μ-loop : tie.MeasureT-loop
 μ-loop starts count pos lo₀ n₀ lo n = n
 
 loop-holds : tie.Need-loop-holds Inv-loop μ-loop
-loop-holds c = halving-begins (c .args .starts .now) (c .args .count) (c .args .pos) (c .pre)
+loop-holds c = halving-begins (c .before .args .starts .now) (c .before .args .count) (c .before .args .pos) (c .before .pre)
 
-sub-mid : tie.Need-sub-mid Inv-loop μ-loop
-sub-mid c = omega arith
+sub-step : tie.Need-sub-step Inv-loop μ-loop
+sub-step c = omega arith
 
-add-mid : tie.Need-add-mid Inv-loop μ-loop
-add-mid c = omega (arith, c .before .loop .inv .inside)
+add-advance : tie.Need-add-advance Inv-loop μ-loop
+add-advance c = let h = halving-short (c .before .loop .inv) (c .loop-test .taken) in omega (arith, h, halving-in (c .before .loop .inv) (c .loop-test .taken))
 
-sub-if1 : tie.Need-sub-if1 Inv-loop μ-loop
-sub-if1 c = omega arith
+sub-advance : tie.Need-sub-advance Inv-loop μ-loop
+sub-advance c = omega (arith, c .loop-test .taken)
 
-mul-if1 : tie.Need-mul-if1 Inv-loop μ-loop
-mul-if1 c = let h = halving-in (c .before .loop .inv) (c .loop-test .taken) in omega arith
+mul-advance : tie.Need-mul-advance Inv-loop μ-loop
+mul-advance c = let h = halving-in (c .before .loop .inv) (c .loop-test .taken) in omega arith
 
-shared-slice-read-if1 : tie.Need-shared-slice-read-if1 Inv-loop μ-loop
-shared-slice-read-if1 c = halving-in (c .before .before .loop .inv) (c .before .loop-test .taken)
+shared-slice-read-advance : tie.Need-shared-slice-read-advance Inv-loop μ-loop
+shared-slice-read-advance c = halving-in (c .before .before .loop .inv) (c .before .loop-test .taken)
+
+advance-requires : tie.Need-advance-requires Inv-loop μ-loop
+advance-requires c κs = let h = halving-short (c .before .before .loop .inv) (c .before .loop-test .taken) in omega arith
 
 loop-less : tie.Need-loop-less Inv-loop μ-loop
-loop-less c = omega arith
+loop-less c = omega (arith, c .before .before .loop-test .taken)
 
 loop-again : tie.Need-loop-again Inv-loop μ-loop
-loop-again c = halving-up (c .before .before .before .loop .inv) (c .before .before .loop-test .taken) (c .if1 .taken)
-
-loop-less-2 : tie.Need-loop-less-2 Inv-loop μ-loop
-loop-less-2 c = omega arith
-
-loop-again-2 : tie.Need-loop-again-2 Inv-loop μ-loop
-loop-again-2 c = halving-down (c .before .before .before .loop .inv) (c .before .before .loop-test .taken) (c .if1 .left)
+loop-again c = halving-on (c .before .before .before .loop .inv) (c .before .before .loop-test .taken) _ (c .advance .ensures)
 
 returns : tie.Need-returns Inv-loop μ-loop
 returns c = halving-ends (c .before .loop .inv) (c .loop-test .left)
@@ -50,13 +47,12 @@ find-spec =
     Inv-loop
     μ-loop
     loop-holds
-    sub-mid
-    add-mid
-    sub-if1
-    mul-if1
-    shared-slice-read-if1
+    sub-step
+    add-advance
+    sub-advance
+    mul-advance
+    shared-slice-read-advance
+    advance-requires
     loop-less
     loop-again
-    loop-less-2
-    loop-again-2
     returns)
