@@ -1,6 +1,6 @@
 -- The halving search: which of the first count starts are at or below a position.
 use Prim.Native.Nat.{ℕ, _+_, _-_, _*_, _/_, _%_, _^_, _≤_, _<_}
-use mathlib.Core.Bool.{Bool, true, false, cond}
+use mathlib.Core.Bool.{Bool, cond}
 use mathlib.Core.List.{List}
 use mathlib.Core.Path.{_≡_}
 use native.Mathlib.Omega.{arith}
@@ -8,7 +8,7 @@ use lib.Dec.{leb}
 use lib.ListN.{length, getD}
 use borrow.Author.Tests.{lt-leb, le-leb}
 use Rattle.regionmap.specs.Inner.{Rising, Found}
-use Rattle.numbers.proofs.Cases.{by-lt}
+use Rattle.numbers.proofs.Cases.{by-lt, cases}
 use mir.Val.{boolByte}
 
 -- from lo on, at most n more starts are at or below p
@@ -73,7 +73,21 @@ module _ {ss : List ℕ} {count p lo n : ℕ} (g : Halving ss count p lo n) wher
         above = λ r j a b. g .above r j (omega (arith, a)) b;
       }
 
--- a step shifted by one bit or by none
-pub shifted : (step : ℕ) (b : Bool) → step + step < 2 ^ 64 → step * 2 ^ boolByte b % 2 ^ 64 ≡ cond b (step + step) step
-shifted step true h = omega arith
-shifted step false h = omega arith
+-- ---- a step shifted by one bit or by none
+
+module _ (b : Bool) where
+  pub one-bit : boolByte b < 64
+  one-bit = cases b (λ e. rw e (omega arith)) (λ e. rw e (omega arith))
+
+  module _ (lo step : ℕ) (h : lo + step + step < 2 ^ 64) where
+    pub shifted : step * 2 ^ boolByte b % 2 ^ 64 ≡ cond b (step + step) step
+    shifted = cases b (λ e. rw e (omega arith)) (λ e. rw e (omega arith))
+
+    pub not-less : step ≤ step * 2 ^ boolByte b % 2 ^ 64
+    not-less = rw shifted (cases b (λ e. simp e (omega arith)) (λ e. simp e (omega arith)))
+
+    pub advanced : lo + (step * 2 ^ boolByte b % 2 ^ 64 - step) ≡ cond b (lo + step) lo
+    advanced = rw shifted (cases b (λ e. simp e (omega arith)) (λ e. simp e (omega arith)))
+
+    pub in-range : lo + (step * 2 ^ boolByte b % 2 ^ 64 - step) < 2 ^ 64
+    in-range = rw advanced (cases b (λ e. simp e (omega arith)) (λ e. simp e (omega arith)))
