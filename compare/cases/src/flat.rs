@@ -1,5 +1,7 @@
 //! Lists of pairs as flat lists of numbers.
 
+use crate::random::Random;
+
 /// An odd list's last number is left out.
 pub fn pairs(s: &[u64]) -> Vec<(u64, u64)> {
     s.chunks_exact(2).map(|c| (c[0], c[1])).collect()
@@ -12,4 +14,19 @@ pub fn flat(pairs: &[(u64, u64)]) -> Vec<u64> {
 /// The numbers in decimal, each behind a space.
 pub fn words(s: &[u64]) -> String {
     s.iter().map(|x| format!(" {x}")).collect()
+}
+
+/// n extents in ascending order, of which `parts` in eight follow the one before.
+pub fn spread(n: usize, parts: u64, random: &mut Random) -> Vec<u64> {
+    let mut end = 0;
+    let mut extents = Vec::new();
+    for _ in 0..n {
+        if random.below(8) >= parts {
+            end += 4096;
+        }
+        let len = (1 + random.below(64)) * 4096;
+        extents.push((end, len));
+        end += len;
+    }
+    flat(&extents)
 }

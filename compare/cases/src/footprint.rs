@@ -8,6 +8,7 @@ mod smaller;
 use crate::flat::{flat, pairs, words};
 use crate::lent::Lent;
 use crate::random::Random;
+use crate::stored;
 use crate::table::{median, row};
 use oracle::footprint::{Footprint, check_region};
 use oracle::header::{header_bytes, header_view, kind};
@@ -255,7 +256,7 @@ pub fn compare(random: &mut Random) -> Result<usize, String> {
     Ok(256 + answered.iter().sum::<usize>() + listed::compare()? + runs::compare(random)?)
 }
 
-/// Lines `check` and `runs`, below 12,000 numbers and 65,536 bytes in all.
+/// Lines `check` and `runs`.
 pub fn sample(random: &mut Random) {
     let mut text = String::from(
         "-- What footprint.rs answers. Made by compare/sample.
@@ -290,16 +291,7 @@ pub fn sample(random: &mut Random) {
         text += &line(&case, &answer);
     }
     text += &runs::sample(random);
-    let numbers = text
-        .split(|c: char| !c.is_ascii_digit())
-        .filter(|n| !n.is_empty())
-        .count();
-    assert!(
-        numbers < 12_000 && text.len() <= 65_536,
-        "{numbers} numbers in {} bytes",
-        text.len()
-    );
-    print!("{text}");
+    stored::print(&text);
 }
 
 fn line(case: &Case, answer: &Answer) -> String {

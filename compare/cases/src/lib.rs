@@ -5,6 +5,8 @@ pub mod flat;
 pub mod footprint;
 pub mod lent;
 pub mod random;
+pub mod regionmap;
 pub mod shrink;
 pub mod sort;
+pub mod stored;
 pub mod table;

@@ -43,3 +43,14 @@ pub fn shrink(mut input: Vec<u64>, unit: usize, differs: impl Fn(&[u64]) -> bool
         }
     }
 }
+
+/// 0 if x is y, 1 if it is one more, 2 if one less, 3 if two more and so on.
+pub fn distance(x: u64, y: u64) -> u64 {
+    let d = y.wrapping_sub(x) as i64;
+    ((d << 1) ^ (d >> 63)) as u64
+}
+
+/// The x whose distance from y is d.
+pub fn at_distance(d: u64, y: u64) -> u64 {
+    y.wrapping_sub((d >> 1) ^ (d & 1).wrapping_neg())
+}

@@ -1,6 +1,9 @@
 //! The Rust project's own files, built unchanged from the sources beside the checkout (rustfmt
 //! would lay them out anew).
 
+// the engine's files name the format's by their crate
+extern crate self as store_io_format;
+
 #[rustfmt::skip]
 #[path = "../../../../shared/docs/src/crates/store-io-core/src/align.rs"]
 pub mod align;
@@ -20,6 +23,18 @@ pub mod meta2;
 pub mod footprint;
 
 pub mod header;
+
+/// The atomics that the engine's files use.
+mod sync {
+    pub use std::sync::atomic::{AtomicU64, Ordering};
+}
+
+#[rustfmt::skip]
+#[allow(dead_code, unexpected_cfgs)]
+#[path = "../../../../shared/docs/src/crates/store-io-engine/src/regionmap.rs"]
+mod regionmap;
+
+pub mod map;
 
 /// How the project sorts pairs: `sort_unstable` of the standard library.
 pub fn sort_pairs(pairs: &mut [(u64, u64)]) {

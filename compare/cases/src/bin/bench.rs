@@ -1,7 +1,7 @@
 //! Times both sides on the same inputs in one run. Argument: a seed.
 
 use cases::random::{Random, SEED};
-use cases::{align, footprint, sort, table};
+use cases::{align, footprint, regionmap, sort, table};
 
 fn main() {
     let seed = std::env::args()
@@ -11,4 +11,5 @@ fn main() {
     align::bench(&mut Random::new(seed));
     sort::bench(&mut Random::new(seed));
     footprint::bench(&mut Random::new(seed));
+    regionmap::bench(&mut Random::new(seed));
 }

@@ -1,7 +1,7 @@
 //! Prints the stored sample of the Rust's answers for the module that the argument names.
 
 use cases::random::{Random, SEED};
-use cases::{align, footprint, sort};
+use cases::{align, footprint, regionmap, sort};
 
 fn main() {
     let mut random = Random::new(SEED);
@@ -9,6 +9,7 @@ fn main() {
         Some("align") => align::sample(&mut random),
         Some("sort") => sort::sample(&mut random),
         Some("footprint") => footprint::sample(&mut random),
+        Some("regionmap") => regionmap::sample(&mut random),
         other => panic!("no module {other:?}"),
     }
 }

@@ -1,6 +1,6 @@
 //! `runs`.
 
-use crate::flat::{flat, pairs, words};
+use crate::flat::{flat, pairs, spread, words};
 use crate::lent::Lent;
 use crate::random::Random;
 use crate::shrink::shrink;
@@ -194,19 +194,4 @@ pub fn bench(random: &mut Random) {
             mine / 16.0,
         );
     }
-}
-
-/// n extents in ascending order, of which `parts` in eight follow the one before.
-fn spread(n: usize, parts: u64, random: &mut Random) -> Vec<u64> {
-    let mut end = 0;
-    let mut extents = Vec::new();
-    for _ in 0..n {
-        if random.below(8) >= parts {
-            end += 4096;
-        }
-        let len = (1 + random.below(64)) * 4096;
-        extents.push((end, len));
-        end += len;
-    }
-    flat(&extents)
 }

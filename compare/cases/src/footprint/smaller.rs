@@ -1,7 +1,7 @@
 //! Makes a record on which the two sides differ as small as it can.
 
 use super::records::Case;
-use crate::shrink::shrink;
+use crate::shrink::{at_distance, distance, shrink};
 use ours::Record;
 
 /// Lowers a record's numbers and drops extents for as long as `differs` still says so. A number that
@@ -16,16 +16,6 @@ pub fn smallest(case: &Case, differs: fn(&Case) -> bool) -> Case {
             return together(&numbers, &extents);
         }
     }
-}
-
-/// 0 if x is y, 1 if it is one more, 2 if one less, 3 if two more and so on.
-fn distance(x: u64, y: u64) -> u64 {
-    let d = y.wrapping_sub(x) as i64;
-    ((d << 1) ^ (d >> 63)) as u64
-}
-
-fn at_distance(d: u64, y: u64) -> u64 {
-    y.wrapping_sub((d >> 1) ^ (d & 1).wrapping_neg())
 }
 
 /// Where the header blocks and committed extents begin and end, and the sum of the lengths.
