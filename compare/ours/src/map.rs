@@ -63,7 +63,7 @@ unsafe extern "C" {
         pos: u64,
         n: u64,
     ) -> FlatAnswer;
-    fn fundravai_map_extents(
+    fn fundravai_map_runs(
         first: u64,
         data: u64,
         capacity: u64,
@@ -225,7 +225,7 @@ pub fn locate(map: &Map, starts: &[u64], files: &[u64], pos: u64, n: u64) -> (u6
 /// Answers the refusal, 0 if accepted, and how many runs were written.
 pub fn extents(map: &Map, starts: &[u64], files: &[u64], out: &mut [u64]) -> (u64, u64) {
     let r = unsafe {
-        fundravai_map_extents(
+        fundravai_map_runs(
             map.first,
             map.data,
             map.capacity,

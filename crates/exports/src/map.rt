@@ -192,7 +192,7 @@ pub extern "C" fn fundravai_map_runs(
 // The next three are for the benchmark, where a call from Rust would cost more than the work. They
 // promise nothing but to end without a trap.
 
-// Locates positions up to the first that is refused, and answers how many there were.
+// Locates each position, and answers how many were located.
 #[no_mangle]
 pub extern "C" fn fundravai_map_locate_each(
     first: u64,
@@ -213,26 +213,26 @@ pub extern "C" fn fundravai_map_locate_each(
         count,
         room,
     };
+    let mut located = 0;
     let mut i = 0;
     while i < positions.len() {
         if i >= bytes.len() {
-            return i as u64;
+            return located;
         }
         let place = map.locate(starts, files, positions[i], n);
+        i += 1;
         match place {
             Located::At(byte) => {
-                bytes[i] = byte;
+                bytes[i - 1] = byte;
+                located += 1;
             }
-            Located::Refused(_) => {
-                return i as u64;
-            }
+            Located::Refused(_) => {}
         }
-        i += 1;
     }
-    i as u64
+    located
 }
 
-// Extends by each pair of extents up to the first that is refused, and answers how many there were.
+// Extends by each pair of extents, and answers how many were accepted.
 #[no_mangle]
 pub extern "C" fn fundravai_map_extend_each(
     extents: &[u64],
@@ -251,24 +251,24 @@ pub extern "C" fn fundravai_map_extend_each(
         count: *count,
         room: *room,
     };
+    let mut accepted = 0;
     let mut i = 0;
     while i < extents.len() / 2 {
         let mapped = map.extend(extents[2 * i], extents[2 * i + 1], starts, files);
+        i += 1;
         match mapped {
             Mapped::Map(next) => {
                 map = next;
+                accepted += 1;
             }
-            Mapped::Refused(_) => {
-                return i as u64;
-            }
+            Mapped::Refused(_) => {}
         }
-        i += 1;
     }
-    let refusal = hand_out(Mapped::Map(map), first, published, capacity, count, room);
-    i as u64
+    hand_out(Mapped::Map(map), first, published, capacity, count, room);
+    accepted
 }
 
-// Publishes each length up to the first that is refused, and answers how many there were.
+// Publishes each length, and answers how many were accepted.
 #[no_mangle]
 pub extern "C" fn fundravai_map_publish_each(
     lens: &[u64],
@@ -285,19 +285,19 @@ pub extern "C" fn fundravai_map_publish_each(
         count: *count,
         room: *room,
     };
+    let mut accepted = 0;
     let mut i = 0;
     while i < lens.len() {
         let mapped = map.publish_len(lens[i]);
+        i += 1;
         match mapped {
             Mapped::Map(next) => {
                 map = next;
+                accepted += 1;
             }
-            Mapped::Refused(_) => {
-                return i as u64;
-            }
+            Mapped::Refused(_) => {}
         }
-        i += 1;
     }
-    let refusal = hand_out(Mapped::Map(map), first, published, capacity, count, room);
-    i as u64
+    hand_out(Mapped::Map(map), first, published, capacity, count, room);
+    accepted
 }

@@ -1,4 +1,4 @@
--- `exports::map::fundravai_map_extend_each` meets its contract: the lists keep their lengths.
+-- `exports::map::fundravai_map_extend_each` is safe and ends: no more are accepted than asked for.
 use Prim.Native.Nat.{_-_, _/_, _≤_}
 use mathlib.Core.Path.{_≡_, refl, _∙_}
 use native.Mathlib.Omega.{arith}
@@ -8,13 +8,13 @@ use Rattle.exports.proofs.map.fundravai_map_extend_each.Statement.{stat
 use Rattle.exports.proofs.map.fundravai_map_extend_each.Tie as tie
 
 abbrev Inv-loop : tie.InvT-loop
-Inv-loop extents starts₀ files₀ first published capacity count room map₀ i₀ starts files map i = (length starts ≡ length starts₀) × (length files ≡ length files₀) × (i ≤ length extents / 2)
+Inv-loop extents starts₀ files₀ first published capacity count room map₀ accepted₀ i₀ starts files map accepted i = (i ≤ length extents / 2) × (accepted ≤ i) × (length starts ≡ length starts₀) × (length files ≡ length files₀)
 
 abbrev μ-loop : tie.MeasureT-loop
-μ-loop extents starts₀ files₀ first published capacity count room map₀ i₀ starts files map i = length extents / 2 - i
+μ-loop extents starts₀ files₀ first published capacity count room map₀ accepted₀ i₀ starts files map accepted i = length extents / 2 - i
 
 loop-holds : tie.Need-loop-holds Inv-loop μ-loop
-loop-holds c = (refl, refl, omega arith)
+loop-holds c = (omega arith, omega arith, refl, refl)
 
 mul-extend : tie.Need-mul-extend Inv-loop μ-loop
 mul-extend c = omega (arith, c .loop-test .taken)
@@ -40,41 +40,41 @@ shared-slice-read-extend-2 c = omega (arith, c .before .before .loop-test .taken
 extend-requires : tie.Need-extend-requires Inv-loop μ-loop
 extend-requires c κs = search needs
 
+add-i : tie.Need-add-i Inv-loop μ-loop
+add-i c = omega (arith, c .before .before .before .before .before .before .before .before .before .loop-test .taken)
+
 enum-known-mapped : tie.Need-enum-known-mapped Inv-loop μ-loop
 enum-known-mapped c = search needs
 
-enum-told : tie.Need-enum-told Inv-loop μ-loop
-enum-told c = search needs
-
-same-length : tie.Need-same-length Inv-loop μ-loop
-same-length c = (c .before .before .before .before .before .before .extend .kept .1 .1 .1 .0) ∙ c .before .before .before .before .before .before .before .before .before .before .before .before .loop .inv .0
-
-same-length-2 : tie.Need-same-length-2 Inv-loop μ-loop
-same-length-2 c = (c .before .before .before .before .before .before .extend .kept .1 .1 .1 .1 .0) ∙ c .before .before .before .before .before .before .before .before .before .before .before .before .loop .inv .1
-
-returns : tie.Need-returns Inv-loop μ-loop
-returns c = search needs
-
-add-i : tie.Need-add-i Inv-loop μ-loop
-add-i c = omega (arith, c .before .before .before .before .before .before .before .before .before .before .before .before .loop-test .taken)
+add-accepted : tie.Need-add-accepted Inv-loop μ-loop
+add-accepted c = let v = c .before .before .before .before .before .before .before .before .before .before .before .before .before .loop .inv in omega (arith, c .before .before .before .before .before .before .before .before .before .before .before .before .loop-test .taken, v .0, v .1)
 
 loop-less : tie.Need-loop-less Inv-loop μ-loop
 loop-less c = omega (arith, c .before .before .before .before .before .before .before .before .before .before .before .before .loop-test .taken)
 
 loop-again : tie.Need-loop-again Inv-loop μ-loop
-loop-again c = ((c .before .before .before .before .before .before .before .extend .kept .1 .1 .1 .0) ∙ c .before .before .before .before .before .before .before .before .before .before .before .before .before .loop .inv .0, (c .before .before .before .before .before .before .before .extend .kept .1 .1 .1 .1 .0) ∙ c .before .before .before .before .before .before .before .before .before .before .before .before .before .loop .inv .1, omega (arith, c .before .before .before .before .before .before .before .before .before .before .before .before .loop-test .taken))
+loop-again c = let v = c .before .before .before .before .before .before .before .before .before .before .before .before .before .loop .inv in (omega (arith, c .before .before .before .before .before .before .before .before .before .before .before .before .loop-test .taken), omega (arith, v .1), (c .before .before .before .before .before .before .before .extend .kept .1 .1 .1 .0) ∙ v .2, (c .before .before .before .before .before .before .before .extend .kept .1 .1 .1 .1 .0) ∙ v .3)
+
+enum-told : tie.Need-enum-told Inv-loop μ-loop
+enum-told c = search needs
+
+loop-less-2 : tie.Need-loop-less-2 Inv-loop μ-loop
+loop-less-2 c = omega (arith, c .before .before .before .before .before .before .before .before .before .before .before .loop-test .taken)
+
+loop-again-2 : tie.Need-loop-again-2 Inv-loop μ-loop
+loop-again-2 c = let v = c .before .before .before .before .before .before .before .before .before .before .before .before .loop .inv in (omega (arith, c .before .before .before .before .before .before .before .before .before .before .before .loop-test .taken), omega (arith, v .1), (c .before .before .before .before .before .before .extend .kept .1 .1 .1 .0) ∙ v .2, (c .before .before .before .before .before .before .extend .kept .1 .1 .1 .1 .0) ∙ v .3)
 
 hand-out-requires : tie.Need-hand-out-requires Inv-loop μ-loop
 hand-out-requires c κs = search needs
 
-same-length-3 : tie.Need-same-length-3 Inv-loop μ-loop
-same-length-3 c = c .before .before .before .before .before .before .before .loop .inv .0
+same-length : tie.Need-same-length Inv-loop μ-loop
+same-length c = c .before .before .before .before .before .before .before .loop .inv .2
 
-same-length-4 : tie.Need-same-length-4 Inv-loop μ-loop
-same-length-4 c = c .before .before .before .before .before .before .before .loop .inv .1
+same-length-2 : tie.Need-same-length-2 Inv-loop μ-loop
+same-length-2 c = c .before .before .before .before .before .before .before .loop .inv .3
 
-returns-2 : tie.Need-returns-2 Inv-loop μ-loop
-returns-2 c = search needs
+returns : tie.Need-returns Inv-loop μ-loop
+returns c = search needs
 
 pub fundravai-map-extend-each-spec : {M : Type 1} → statement M
 fundravai-map-extend-each-spec =
@@ -91,15 +91,15 @@ fundravai-map-extend-each-spec =
     mul-extend-4
     shared-slice-read-extend-2
     extend-requires
-    enum-known-mapped
-    enum-told
-    same-length
-    same-length-2
-    returns
     add-i
+    enum-known-mapped
+    add-accepted
     loop-less
     loop-again
+    enum-told
+    loop-less-2
+    loop-again-2
     hand-out-requires
-    same-length-3
-    same-length-4
-    returns-2)
+    same-length
+    same-length-2
+    returns)

@@ -1,4 +1,4 @@
--- `exports::map::fundravai_map_publish_each` meets its contract: the loop ends.
+-- `exports::map::fundravai_map_publish_each` is safe and ends: no more are accepted than asked for.
 use Prim.Native.Nat.{_-_, _≤_}
 use native.Mathlib.Omega.{arith}
 use lib.ListN.{length}
@@ -7,13 +7,13 @@ use Rattle.exports.proofs.map.fundravai_map_publish_each.Statement.{sta
 use Rattle.exports.proofs.map.fundravai_map_publish_each.Tie as tie
 
 abbrev Inv-loop : tie.InvT-loop
-Inv-loop lens first published capacity count room map₀ i₀ map i = i ≤ length lens
+Inv-loop lens first published capacity count room map₀ accepted₀ i₀ map accepted i = (i ≤ length lens) × (accepted ≤ i)
 
 abbrev μ-loop : tie.MeasureT-loop
-μ-loop lens first published capacity count room map₀ i₀ map i = length lens - i
+μ-loop lens first published capacity count room map₀ accepted₀ i₀ map accepted i = length lens - i
 
 loop-holds : tie.Need-loop-holds Inv-loop μ-loop
-loop-holds c = omega arith
+loop-holds c = (omega arith, omega arith)
 
 mul-publish-len : tie.Need-mul-publish-len Inv-loop μ-loop
 mul-publish-len c = omega (arith, c .loop-test .taken)
@@ -24,29 +24,35 @@ shared-slice-read-publish-len c = omega (arith, c .before .loop-test .taken)
 publish-len-requires : tie.Need-publish-len-requires Inv-loop μ-loop
 publish-len-requires c κs = search needs
 
+add-i : tie.Need-add-i Inv-loop μ-loop
+add-i c = omega (arith, c .before .before .loop-test .taken)
+
 enum-known-mapped : tie.Need-enum-known-mapped Inv-loop μ-loop
 enum-known-mapped c = search needs
 
-enum-told : tie.Need-enum-told Inv-loop μ-loop
-enum-told c = search needs
-
-returns : tie.Need-returns Inv-loop μ-loop
-returns c = search needs
-
-add-i : tie.Need-add-i Inv-loop μ-loop
-add-i c = omega (arith, c .before .before .before .before .before .loop-test .taken)
+add-accepted : tie.Need-add-accepted Inv-loop μ-loop
+add-accepted c = let v = c .before .before .before .before .before .before .loop .inv in omega (arith, c .before .before .before .before .before .loop-test .taken, v .0, v .1)
 
 loop-less : tie.Need-loop-less Inv-loop μ-loop
 loop-less c = omega (arith, c .before .before .before .before .before .loop-test .taken)
 
 loop-again : tie.Need-loop-again Inv-loop μ-loop
-loop-again c = omega (arith, c .before .before .before .before .before .loop-test .taken)
+loop-again c = let v = c .before .before .before .before .before .before .loop .inv in (omega (arith, c .before .before .before .before .before .loop-test .taken), omega (arith, v .1))
+
+enum-told : tie.Need-enum-told Inv-loop μ-loop
+enum-told c = search needs
+
+loop-less-2 : tie.Need-loop-less-2 Inv-loop μ-loop
+loop-less-2 c = omega (arith, c .before .before .before .before .loop-test .taken)
+
+loop-again-2 : tie.Need-loop-again-2 Inv-loop μ-loop
+loop-again-2 c = let v = c .before .before .before .before .before .loop .inv in (omega (arith, c .before .before .before .before .loop-test .taken), omega (arith, v .1))
 
 hand-out-requires : tie.Need-hand-out-requires Inv-loop μ-loop
 hand-out-requires c κs = search needs
 
-returns-2 : tie.Need-returns-2 Inv-loop μ-loop
-returns-2 c = search needs
+returns : tie.Need-returns Inv-loop μ-loop
+returns c = search needs
 
 pub fundravai-map-publish-each-spec : {M : Type 1} → statement M
 fundravai-map-publish-each-spec =
@@ -58,11 +64,13 @@ fundravai-map-publish-each-spec =
     mul-publish-len
     shared-slice-read-publish-len
     publish-len-requires
-    enum-known-mapped
-    enum-told
-    returns
     add-i
+    enum-known-mapped
+    add-accepted
     loop-less
     loop-again
+    enum-told
+    loop-less-2
+    loop-again-2
     hand-out-requires
-    returns-2)
+    returns)
