@@ -1,9 +1,8 @@
 //! Every sequence of a few calls with small numbers, and with numbers at the limits.
 
 use super::sequence::{
-    EXTEND, EXTENTS, FROM_EXTENTS, LOCATE, PUBLISH_LEN, Sequence, Told, WITH_ROOM,
+    EXTEND, EXTENTS, FROM_EXTENTS, LOCATE, PUBLISH_LEN, Sequence, Told, WITH_ROOM, plain,
 };
-use crate::shrink::distance;
 
 const MAX: u64 = u64::MAX;
 
@@ -11,11 +10,6 @@ const LIMITS: [u64; 8] = [0, 1, 2, 3, 1 << 63, MAX - 2, MAX - 1, MAX];
 
 /// What each sequence goes to.
 type Check<'a> = &'a mut dyn FnMut(&Sequence) -> Result<(), String>;
-
-/// A call with its arguments, in lists just long enough.
-fn call(which: u64, first: u64, second: u64) -> Told {
-    [which, 0, distance(first, 0), 0, distance(second, 0), 0, 0]
-}
 
 /// Every list of n pairs of these offsets and lengths.
 fn lists(n: usize, offsets: &[u64], lens: &[u64]) -> Vec<Vec<(u64, u64)>> {
@@ -37,8 +31,8 @@ fn lists(n: usize, offsets: &[u64], lens: &[u64]) -> Vec<Vec<(u64, u64)>> {
 
 /// A map without published bytes, with some room, extended by some extents.
 fn extended(room: u64, extents: &[(u64, u64)]) -> Vec<Told> {
-    let mut calls = vec![call(FROM_EXTENTS, 0, 0), call(WITH_ROOM, room, 0)];
-    calls.extend(extents.iter().map(|e| call(EXTEND, e.0, e.1)));
+    let mut calls = vec![plain(FROM_EXTENTS, 0, 0), plain(WITH_ROOM, room, 0)];
+    calls.extend(extents.iter().map(|e| plain(EXTEND, e.0, e.1)));
     calls
 }
 
@@ -68,9 +62,9 @@ pub fn located_at_the_limits(check: Check) -> Result<(), String> {
     for list in lists(1, &LIMITS, &LIMITS) {
         for extension in lists(1, &LIMITS, &LIMITS) {
             let mut calls = extended(1, &extension);
-            calls.extend(LIMITS.map(|len| call(PUBLISH_LEN, len, 0)));
+            calls.extend(LIMITS.map(|len| plain(PUBLISH_LEN, len, 0)));
             for pos in LIMITS {
-                calls.extend(LIMITS.map(|n| call(LOCATE, pos, n)));
+                calls.extend(LIMITS.map(|n| plain(LOCATE, pos, n)));
             }
             check(&Sequence::new(2, 0, &list, &calls))?;
         }
@@ -85,12 +79,12 @@ pub fn tiny(check: Check) -> Result<(), String> {
         for extension in lists(1, &[0, 1, 2, 3, 4, 5, 6], &[0, 1, 2]) {
             for room in 0..=2 {
                 let mut calls = extended(room, &extension);
-                calls.push(call(EXTENTS, 0, 0));
+                calls.push(plain(EXTENTS, 0, 0));
                 let bytes: u64 = list.iter().chain(&extension).map(|e| e.1).sum();
                 for data in 0..=bytes + 1 {
-                    calls.push(call(PUBLISH_LEN, data, 0));
+                    calls.push(plain(PUBLISH_LEN, data, 0));
                     for pos in 0..=data + 1 {
-                        calls.extend((0..=data + 1 - pos).map(|n| call(LOCATE, pos, n)));
+                        calls.extend((0..=data + 1 - pos).map(|n| plain(LOCATE, pos, n)));
                     }
                 }
                 check(&Sequence::new(2, 0, &list, &calls))?;

@@ -1,12 +1,13 @@
 //! A stored sample of the Rust's answers.
 
 use super::draw::{Size, any, extend, extents, sweep};
-use super::sequence::{EXTEND, EXTENTS, FROM_EXTENTS, LOCATE, PUBLISH_LEN, Sequence, WITH_ROOM};
+use super::sequence::{
+    EXTEND, EXTENTS, FROM_EXTENTS, LOCATE, PUBLISH_LEN, Sequence, WITH_ROOM, plain,
+};
 use super::sides::{Answer, Call, Sides};
 use super::{CALLS, Tally};
 use crate::flat::words;
 use crate::random::Random;
-use crate::shrink::distance;
 use crate::stored;
 use std::convert::Infallible;
 
@@ -50,15 +51,40 @@ fn line(call: &Call, places: usize, answer: &Answer, sides: &Sides) -> String {
 /// Document 01's marks P10 to P12.
 fn marks() -> Sequence {
     let extents = [(100, 10), (110, 5), (200, 0), (115, 5), (300, 1)];
-    let at = |pos: u64, n: u64| [LOCATE, 0, distance(pos, 0), 0, distance(n, 0), 0, 0];
     let calls = [
-        [FROM_EXTENTS, 0, 0, 0, distance(21, 0), 0, 0],
-        [EXTENTS, 0, 0, 0, 0, 0, 0],
-        at(19, 1),
-        at(20, 1),
-        at(19, 2),
+        plain(FROM_EXTENTS, 0, 21),
+        plain(EXTENTS, 0, 0),
+        plain(LOCATE, 19, 1),
+        plain(LOCATE, 20, 1),
+        plain(LOCATE, 19, 2),
     ];
     Sequence::new(PLACES, 0, &extents, &calls)
+}
+
+/// Maps without extents: one is extended at byte 0, the other elsewhere.
+fn without_extents() -> Sequence {
+    let calls = [
+        plain(FROM_EXTENTS, 0, 1),
+        plain(FROM_EXTENTS, 0, 0),
+        plain(LOCATE, 0, 0),
+        plain(EXTEND, 0, 2),
+        plain(LOCATE, 0, 0),
+        plain(PUBLISH_LEN, 2, 0),
+        plain(LOCATE, 1, 1),
+        plain(LOCATE, 2, 0),
+        plain(FROM_EXTENTS, 0, 0),
+        plain(EXTEND, 5, 1),
+        plain(WITH_ROOM, 1, 0),
+        plain(EXTEND, 5, 3),
+        plain(EXTEND, 0, 1),
+        plain(EXTEND, 8, 1),
+        plain(PUBLISH_LEN, 4, 0),
+        plain(LOCATE, 0, 0),
+        plain(LOCATE, 0, 4),
+        plain(LOCATE, 4, 0),
+        plain(EXTENTS, 0, 0),
+    ];
+    Sequence::new(PLACES, 0, &[], &calls)
 }
 
 /// A map of n extents, some calls on it, then all of its bytes published and some of them located.
@@ -113,6 +139,7 @@ pub fn sample(random: &mut Random) {
         });
     };
     tell(&marks());
+    tell(&without_extents());
     for i in 0..58 {
         let n = if i % 20 == 19 { 60 } else { i % 9 };
         let size = [Size::Giant, Size::Tiny, Size::Blocks, Size::Tiny][i % 4];

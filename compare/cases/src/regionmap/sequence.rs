@@ -20,6 +20,12 @@ pub const EXTEND: u64 = 3;
 pub const LOCATE: u64 = 4;
 pub const EXTENTS: u64 = 5;
 
+/// A call with its arguments, in lists just long enough. `from_extents` is given all the extents, and
+/// its length second.
+pub fn plain(call: u64, first: u64, second: u64) -> Told {
+    [call, 0, distance(first, 0), 0, distance(second, 0), 0, 0]
+}
+
 #[derive(Clone, PartialEq)]
 pub struct Sequence {
     /// How many places the lists have, and what fills them.
