@@ -164,7 +164,7 @@ module _ (xs : List Range) (f n : ℕ) (h : 0 < n) where
         let s = some-run (runsOf xs) (λ z. let b = none-total xs z in omega arith) in
         inr (rw (e, next) (extended-cons blankRun (runsOf xs) (total xs) f n s))
 
--- without a first run there is none that an extension at byte 0 joins
+-- every map has a first run (`some-run` in proofs/Means)
 pub lays-extended : (m : Placement) (xs : List Range) (f n : ℕ) → 0 < length (m .runs) → Lays m xs → 0 < n → m .capacity + n ≤ top → f + n ≤ top → Lays (extended m f n) (xs ++ (range f n ∷ []))
 lays-extended m xs f n s l h c t =
     let e = l .capacity in
@@ -189,3 +189,7 @@ byte-laid m xs p l c h =
     let i = in-one-run xs p (omega (arith, l .capacity)) in
     let o = run-only (runsOf xs) (total xs) p (i .place) (runs-laid xs (omega (arith, l .capacity))) (i .inside) (i .holds) in
     ap (λ (r : Run). runByte r p) (run-laid m xs p l ∙ sym o) ∙ i .byte
+
+-- the byte of each position of a map just made
+pub byte-placed : (xs : List Range) (n p : ℕ) → total xs ≤ top → p < total xs → byteAt (placed xs n) p ≡ byteOf xs p
+byte-placed xs n p h l = byte-laid (placed xs n) xs p (lays-placed xs n) h l

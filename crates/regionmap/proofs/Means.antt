@@ -71,6 +71,16 @@ means-runs r (q ∷ rs) cap e =
 
 -- ---- the runs of a record
 
+-- there is always a first one
+some-to : (cap s f : ℕ) (ts gs : List ℕ) → 0 < length (runsTo cap s f ts gs)
+unfolding runsTo
+some-to cap s f [] gs = omega arith
+some-to cap s f (t ∷ ts) [] = omega arith
+some-to cap s f (t ∷ ts) (g ∷ gs) = omega arith
+
+pub some-run : (m : RegionMap) (ss fs : List ℕ) → 0 < length (placementOf m ss fs .runs)
+some-run m ss fs = some-to (m .capacity) 0 (m .first) (take (m .count) ss) (take (m .count) fs)
+
 module _ (m : RegionMap) (ss fs : List ℕ) (s : m .count ≤ length ss) (f : m .count ≤ length fs) where
   pub same-count : length (take (m .count) ss) ≡ length (take (m .count) fs)
   same-count = length-take-le (m .count) ss s ∙ sym (length-take-le (m .count) fs f)

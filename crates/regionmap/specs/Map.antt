@@ -52,6 +52,8 @@ abbrev pub EndToEnd : ℕ → List Run → ℕ → Type 0
 EndToEnd a [] b = a ≡ b
 EndToEnd a (r ∷ rs) b = (r .start ≡ a) × EndToEnd (a + r .len) rs b
 
+-- The runs lie end to end up to the capacity and end in the file at or below 2^64 - 1, the length is at most the capacity, and the
+-- runs after the first have room.
 pub record Sound (p : Placement) : Type 0 where
   pub laid : EndToEnd 0 (p .runs) (p .capacity)
   pub inside : All (λ (r : Run). r .file + r .len ≤ top) (p .runs)
