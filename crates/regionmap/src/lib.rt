@@ -20,6 +20,9 @@ ghost use Rattle.footprint.specs.Runs.{countOf};
 ghost use Rattle.regionmap.specs.Inner.{RunEnd};
 ghost use Rattle.regionmap.specs.Map.{Made, Roomed, Published, Extended, Answered, Written, placementOf, fileEnd};
 
+// Most extents of a map, and most room.
+const MOST: usize = 4084;
+
 // A region's data placement. Its runs after the first stand in two lists that its holder lends to
 // each call: their starts and their file offsets.
 pub struct RegionMap {
@@ -86,7 +89,7 @@ impl RegionMap {
             return Mapped::Refused(1);
         }
         let n = extents.len() / 2;
-        if n > 4084 {
+        if n > MOST {
             return Mapped::Refused(1);
         }
         if too_few(n, starts.len(), files.len()) {
@@ -109,33 +112,33 @@ impl RegionMap {
         })
     }
 
-    // The map with room for n runs after the first, or more where it has more.
-    pub fn with_room(self, n: usize, starts: &[u64], files: &[u64]) -> Mapped
-        ensures { λ r. ⌜ Roomed self n (now (starts .entry)) (now (files .entry)) r ⌝ }
+    // The map with room for so many runs after the first, or more where it has more.
+    pub fn with_room(self, room: usize, starts: &[u64], files: &[u64]) -> Mapped
+        ensures { λ r. ⌜ Roomed self room (now (starts .entry)) (now (files .entry)) r ⌝ }
     {
-        if n > 4084 {
+        if room > MOST {
             return Mapped::Refused(1);
         }
-        if too_few(n, starts.len(), files.len()) {
+        if too_few(room, starts.len(), files.len()) {
             return Mapped::Refused(1);
         }
         let mut map = self;
-        if self.room < n {
-            map.room = n;
+        if self.room < room {
+            map.room = room;
         }
         Mapped::Map(map)
     }
 
-    // The map with n bytes of data, or more where it has more.
-    pub fn publish_len(self, n: u64) -> Mapped
-        ensures { λ r. ⌜ Published self n r ⌝ }
+    // The map with so many bytes of data, or more where it has more.
+    pub fn publish_len(self, len: u64) -> Mapped
+        ensures { λ r. ⌜ Published self len r ⌝ }
     {
-        if n > self.capacity {
+        if len > self.capacity {
             return Mapped::Refused(23);
         }
         let mut map = self;
-        if self.len < n {
-            map.len = n;
+        if self.len < len {
+            map.len = len;
         }
         Mapped::Map(map)
     }
