@@ -25,17 +25,12 @@ use Rattle.regionmap.proofs.Extents.{runs-skip, runs-none, none-total, 
 
 -- ---- the last run longer, and one run more
 
-longer-start : (n : ℕ) (rs : List Run) → map (λ (q : Run). q .start) (longer n rs) ≡ map (λ (q : Run). q .start) rs
+-- what does not look at the length stays
+longer-same : (p : Run → ℕ) → ((r : Run) (n : ℕ) → p (run (r .start) (r .file) n) ≡ p r) → (n : ℕ) (rs : List Run) → map p (longer n rs) ≡ map p rs
 unfolding longer
-longer-start n [] = refl
-longer-start n (r ∷ []) = refl
-longer-start n (r ∷ q ∷ qs) = ap (λ (l : List ℕ). r .start ∷ l) (longer-start n (q ∷ qs))
-
-longer-file : (n : ℕ) (rs : List Run) → map (λ (q : Run). q .file) (longer n rs) ≡ map (λ (q : Run). q .file) rs
-unfolding longer
-longer-file n [] = refl
-longer-file n (r ∷ []) = refl
-longer-file n (r ∷ q ∷ qs) = ap (λ (l : List ℕ). r .file ∷ l) (longer-file n (q ∷ qs))
+longer-same p e n [] = refl
+longer-same p e n (r ∷ []) = ap (λ (q : ℕ). q ∷ []) (e r (r .len + n))
+longer-same p e n (r ∷ q ∷ qs) = ap (λ (l : List ℕ). p r ∷ l) (longer-same p e n (q ∷ qs))
 
 -- the runs with the last one longer, in two parts
 record Longer (n : ℕ) (r : Run) (rs : List Run) : Type 0 where
@@ -56,8 +51,8 @@ longer-parts n r (q ∷ qs) =
       rest = longer n (q ∷ qs);
       is = refl;
       from = refl;
-      starts = longer-start n (q ∷ qs);
-      files = longer-file n (q ∷ qs);
+      starts = longer-same (λ (s : Run). s .start) (λ s k. refl) n (q ∷ qs);
+      files = longer-same (λ (s : Run). s .file) (λ s k. refl) n (q ∷ qs);
       count = longer-length n (q ∷ qs);
     }
 

@@ -17,7 +17,7 @@ use Rattle.regionmap.specs.declared.Mapped.the-variants.{Map, Refused}
 use Rattle.regionmap.specs.declared.RegionMap.{RegionMap}
 use Rattle.regionmap.proofs.Bytes.{extended-laid, extended-inside, extended-length}
 use Rattle.regionmap.proofs.Lookup.{Enough}
-use Rattle.regionmap.proofs.Means.{same-count, runs-count, means-start, means-new, means-longer}
+use Rattle.regionmap.proofs.Means.{same-count, runs-count, means-at, means-new, means-longer}
 use Rattle.regionmap.proofs.Order.{laid-last}
 use Rattle.regionmap.proofs.Records.{refuses, accepts}
 
@@ -86,7 +86,7 @@ module _ (m : RegionMap) (f n : ℕ) (ss fs : List ℕ) where
     last-below : Valid m ss fs → getD (0 ∷ take (m .count) ss) (length (take (m .count) ss)) 0 ≤ m .capacity
     last-below v =
         let l = laid-last (p .runs) 0 (m .capacity) (m .count) (v .sound .laid) (omega (arith, some)) in
-        let s = means-start (m .capacity) 0 (m .first) (take (m .count) ss) (take (m .count) fs) (m .count) same (omega (arith, ls)) in
+        let s = means-at (m .capacity) 0 (m .first) (take (m .count) ss) (take (m .count) fs) (m .count) same (omega (arith, ls)) .0 in
         rw ls (omega (arith, l, s))
 
     abbrev joined-map : RegionMap

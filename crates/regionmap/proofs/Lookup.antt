@@ -1,7 +1,7 @@
 -- The run that the search finds is the run of the position.
 use Prim.Native.Nat.{ℕ, zero, suc, _+_, _-_, _≤_, _<_}
 use mathlib.Core.Bool.{true, false, _||_}
-use mathlib.Core.List.{List}
+use mathlib.Core.List.{List, _∷_}
 use mathlib.Core.Path.{_≡_, ap, sym, _∙_}
 use native.Mathlib.Omega.{arith}
 use lib.Dec.{ltb}
@@ -17,7 +17,7 @@ use Rattle.regionmap.specs.declared.RegionMap.{RegionMap}
 use Rattle.numbers.proofs.Cases.{or-false, by-lt}
 use Rattle.numbers.proofs.Lists.{all-at}
 use Rattle.regionmap.proofs.Bytes.{run-at}
-use Rattle.regionmap.proofs.Means.{same-count, runs-count, means-start, means-file}
+use Rattle.regionmap.proofs.Means.{same-count, runs-count, means-at}
 use Rattle.regionmap.proofs.Order.{laid-rising, laid-next, laid-last}
 use mathlib.Core.Bool as Bool
 
@@ -63,22 +63,22 @@ module _ (m : RegionMap) (ss fs : List ℕ) (v : Valid m ss fs) where
   unfolding tooFew
   lists-fail e = simp (le-ltb (m .room) (m .count) count-room, Bool.or-false) at e
 
+  -- where run k starts, in the data and in the file
+  run-is : (k : ℕ) → k ≤ m .count → (at (runs m ss fs) k .start ≡ getD (0 ∷ take (m .count) ss) k 0) × (at (runs m ss fs) k .file ≡ getD (m .first ∷ take (m .count) fs) k 0)
+  run-is k h = means-at (m .capacity) 0 (m .first) (take (m .count) ss) (take (m .count) fs) k same (omega (arith, ls))
+
   module _ (k : ℕ) (h : k < m .count) where
     later-start : at (runs m ss fs) (suc k) .start ≡ getD ss k 0
-    later-start =
-        means-start (m .capacity) 0 (m .first) (take (m .count) ss) (take (m .count) fs) (suc k) same (omega (arith, ls))
-        ∙ getD-take (m .count) ss k 0 h
+    later-start = run-is (suc k) h .0 ∙ getD-take (m .count) ss k 0 h
 
     later-file : at (runs m ss fs) (suc k) .file ≡ getD fs k 0
-    later-file =
-        means-file (m .capacity) 0 (m .first) (take (m .count) ss) (take (m .count) fs) (suc k) same (omega (arith, ls))
-        ∙ getD-take (m .count) fs k 0 h
+    later-file = run-is (suc k) h .1 ∙ getD-take (m .count) fs k 0 h
 
   first-start : at (runs m ss fs) 0 .start ≡ 0
-  first-start = means-start (m .capacity) 0 (m .first) (take (m .count) ss) (take (m .count) fs) 0 same (omega arith)
+  first-start = run-is 0 (omega arith) .0
 
   first-file : at (runs m ss fs) 0 .file ≡ m .first
-  first-file = means-file (m .capacity) 0 (m .first) (take (m .count) ss) (take (m .count) fs) 0 same (omega arith)
+  first-file = run-is 0 (omega arith) .1
 
   rising : Rising ss (m .count)
   rising i j l h =

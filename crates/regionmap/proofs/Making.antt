@@ -4,7 +4,7 @@ use mathlib.Core.Bool.{true, false}
 use mathlib.Core.List.{List, [], _∷_, map}
 use mathlib.Core.Path.{_≡_, refl, ap, sym, subst, _∙_}
 use native.Mathlib.Omega.{arith}
-use lib.ListN.{length, getD, take, drop, length-append, length-map}
+use lib.ListN.{length, getD, take, drop, length-append, length-map, length-drop}
 use lib.Seq.{take-at}
 use borrow.Author.Tests.{ne-eqb, le-ltb, lt-ltb, ltb-false}
 use Rattle.footprint.specs.Runs.{Run, blankRun, runsOf}
@@ -64,13 +64,15 @@ count-first : (rs : List Run) → length (withFirst rs) ≤ length rs - 1 + 1
 count-first [] = omega arith
 count-first (r ∷ rs) = omega arith
 
--- a list with ws in front
-front : (ws s₀ s : List ℕ) (n : ℕ) → length ws ≡ n → s ≡ written ws s₀ → (take n s ≡ ws) × (n ≤ length s)
-front ws s₀ s n e w = (ap (take n) w ∙ take-at ws (drop (length ws) s₀) n e, rw w (rw (length-append ws (drop (length ws) s₀)) (omega arith)))
+-- a list with one number for each run after the first in front
+module _ (rs : List Run) (p : Run → ℕ) where
+  later-length : length (map p (drop 1 rs)) ≡ length rs - 1
+  later-length = length-map (drop 1 rs) p ∙ length-drop 1 rs
 
-later-length : (rs : List Run) (p : Run → ℕ) → length (map p (drop 1 rs)) ≡ length rs - 1
-later-length [] p = refl
-later-length (r ∷ rs) p = length-map rs p ∙ omega arith
+  front : (s₀ s : List ℕ) (n : ℕ) → n ≡ length rs - 1 → s ≡ written (map p (drop 1 rs)) s₀ → (take n s ≡ map p (drop 1 rs)) × (n ≤ length s)
+  front s₀ s n e w =
+      let ws = map p (drop 1 rs) in
+      (ap (take n) w ∙ take-at ws (drop (length ws) s₀) n (later-length ∙ sym e), rw w (rw (length-append ws (drop (length ws) s₀), later-length) (omega arith)))
 
 module _ (xs : List ℕ) (len : ℕ) (ss₀ fs₀ : List ℕ) where
   pub made-refused : (k : ℕ) → (k ≡ 0 → ⊥) → k ≡ fromRefusal xs len ss₀ fs₀ → Made xs len ss₀ ss₀ fs₀ fs₀ (Refused k)
@@ -100,10 +102,10 @@ module _ (xs : List ℕ) (len : ℕ) (ss₀ fs₀ : List ℕ) where
 
     module _ {ss fs : List ℕ} {from count bytes : ℕ} (s : bytes ≡ total (pairs xs)) (l : Laid (pairs xs) ss₀ ss fs₀ fs from count) where
       starts-front : (take count ss ≡ map (λ (r : Run). r .start) (drop 1 (runsOf (pairs xs)))) × (count ≤ length ss)
-      starts-front = front (map (λ (r : Run). r .start) (drop 1 (runsOf (pairs xs)))) ss₀ ss count (later-length (runsOf (pairs xs)) (λ (r : Run). r .start) ∙ sym (l .later)) (l .starts)
+      starts-front = front (runsOf (pairs xs)) (λ (r : Run). r .start) ss₀ ss count (l .later) (l .starts)
 
       files-front : (take count fs ≡ map (λ (r : Run). r .file) (drop 1 (runsOf (pairs xs)))) × (count ≤ length fs)
-      files-front = front (map (λ (r : Run). r .file) (drop 1 (runsOf (pairs xs)))) fs₀ fs count (later-length (runsOf (pairs xs)) (λ (r : Run). r .file) ∙ sym (l .later)) (l .files)
+      files-front = front (runsOf (pairs xs)) (λ (r : Run). r .file) fs₀ fs count (l .later) (l .files)
 
       abbrev made-map : RegionMap
       made-map = record { first = from; len = len; capacity = bytes; count = count; room = count }

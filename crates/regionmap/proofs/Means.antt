@@ -20,21 +20,14 @@ means-length cap s f [] gs e = refl
 means-length cap s f (t ∷ ts) [] e = absurd (omega arith)
 means-length cap s f (t ∷ ts) (g ∷ gs) e = let i = means-length cap t g ts gs (omega arith) in omega arith
 
-pub means-start : (cap s f : ℕ) (ts gs : List ℕ) (k : ℕ) → length ts ≡ length gs → k ≤ length ts → at (runsTo cap s f ts gs) k .start ≡ getD (s ∷ ts) k 0
+-- where run k starts, in the data and in the file
+pub means-at : (cap s f : ℕ) (ts gs : List ℕ) (k : ℕ) → length ts ≡ length gs → k ≤ length ts → (at (runsTo cap s f ts gs) k .start ≡ getD (s ∷ ts) k 0) × (at (runsTo cap s f ts gs) k .file ≡ getD (f ∷ gs) k 0)
 unfolding runsTo
-means-start cap s f [] gs zero e h = refl
-means-start cap s f [] gs (suc k) e h = absurd (omega arith)
-means-start cap s f (t ∷ ts) [] k e h = absurd (omega arith)
-means-start cap s f (t ∷ ts) (g ∷ gs) zero e h = refl
-means-start cap s f (t ∷ ts) (g ∷ gs) (suc k) e h = means-start cap t g ts gs k (omega arith) (omega arith)
-
-pub means-file : (cap s f : ℕ) (ts gs : List ℕ) (k : ℕ) → length ts ≡ length gs → k ≤ length ts → at (runsTo cap s f ts gs) k .file ≡ getD (f ∷ gs) k 0
-unfolding runsTo
-means-file cap s f [] gs zero e h = refl
-means-file cap s f [] gs (suc k) e h = absurd (omega arith)
-means-file cap s f (t ∷ ts) [] k e h = absurd (omega arith)
-means-file cap s f (t ∷ ts) (g ∷ gs) zero e h = refl
-means-file cap s f (t ∷ ts) (g ∷ gs) (suc k) e h = means-file cap t g ts gs k (omega arith) (omega arith)
+means-at cap s f [] gs zero e h = (refl, refl)
+means-at cap s f [] gs (suc k) e h = absurd (omega arith)
+means-at cap s f (t ∷ ts) [] k e h = absurd (omega arith)
+means-at cap s f (t ∷ ts) (g ∷ gs) zero e h = (refl, refl)
+means-at cap s f (t ∷ ts) (g ∷ gs) (suc k) e h = means-at cap t g ts gs k (omega arith) (omega arith)
 
 -- where the last one ends in the file
 pub means-end : (cap s f : ℕ) (ts gs : List ℕ) → length ts ≡ length gs → fileEnd (runsTo cap s f ts gs) ≡ getD (f ∷ gs) (length ts) 0 + (cap - getD (s ∷ ts) (length ts) 0)
