@@ -223,7 +223,7 @@ pub fn locate(map: &Map, starts: &[u64], files: &[u64], pos: u64, n: u64) -> (u6
 }
 
 /// Answers the refusal, 0 if accepted, and how many runs were written.
-pub fn extents(map: &Map, starts: &[u64], files: &[u64], out: &mut [u64]) -> (u64, u64) {
+pub fn runs(map: &Map, starts: &[u64], files: &[u64], out: &mut [u64]) -> (u64, u64) {
     let r = unsafe {
         fundravai_map_runs(
             map.first,

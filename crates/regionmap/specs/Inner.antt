@@ -13,7 +13,7 @@ use Rattle.regionmap.specs.Map.{passesTop, withFirst}
 abbrev pub Rising : List ℕ → ℕ → Type 0
 Rising ss n = (i j : ℕ) → i ≤ j → j < n → getD ss i 0 ≤ getD ss j 0
 
--- The first r starts are at or below p, and no later one of the first n.
+-- The start in front of r is at or below p and, where the first n are in order, those from r on are above it.
 pub record Found (ss : List ℕ) (n p r : ℕ) : Type 0 where
   pub inside : r ≤ n
   pub below : 0 < r → getD ss (r - 1) 0 ≤ p

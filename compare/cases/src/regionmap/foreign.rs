@@ -124,9 +124,9 @@ impl Foreign {
                 }) && kept(ats, given, &(0..positions.len() as u64)),
             ),
             (
-                "extents",
+                "runs",
                 self.keeps(0..0, |map, [starts, files]| {
-                    runs = ours::map::extents(map, starts, files, out.list()).1;
+                    runs = ours::map::runs(map, starts, files, out.list()).1;
                 }) && runs <= pairs
                     && kept(out, given, &(0..2 * runs)),
             ),

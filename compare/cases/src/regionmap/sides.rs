@@ -242,7 +242,7 @@ impl Sides {
             }
             Call::Extents { out } => {
                 let mut list = Lent::new(&slots(out));
-                let (refusal, n) = ours::map::extents(map, starts, files, list.list());
+                let (refusal, n) = ours::map::runs(map, starts, files, list.list());
                 return read(refusal, n, list.back());
             }
         };

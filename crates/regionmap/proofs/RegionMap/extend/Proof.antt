@@ -1,5 +1,5 @@
 -- `regionmap::RegionMap::extend` meets its contract: each return is a case of `Extended`.
-use Prim.Native.Nat.{ℕ, _+_}
+use Prim.Native.Nat.{_+_, _≤_}
 use mathlib.Core.Bool.{false, _||_}
 use mathlib.Core.Path.{_≡_, sym, _∙_}
 use native.Mathlib.Omega.{arith}
@@ -10,41 +10,54 @@ use Rattle.numbers.specs.Range.{range}
 use Rattle.numbers.specs.Sums.{top}
 use Rattle.regionmap.specs.Map.{placementOf, passesTop}
 use Rattle.regionmap.proofs.Growing.{extend-few, extend-outside, extend-over, extend-full, extend-refused, extend-joins, extend-takes}
-use Rattle.regionmap.proofs.Lookup.{lists-pass, lists-fail, runs-length}
+use Rattle.regionmap.proofs.Lookup.{Enough, lists-pass, lists-fail, runs-length}
 use Rattle.regionmap.proofs.RegionMap.extend.Statement.{statement}
 use Rattle.regionmap.proofs.RegionMap.extend.Tie as tie
 
-not-outside : (f n : ℕ) → (n ≡ 0 → ⊥) → ltb top (f + n) ≡ false → (eqb n 0 || passesTop (range f n)) ≡ false
+-- what the tests up to a place have shown
+enough : (c : tie.Else1) → Enough (c .before .before .before .before .args .self) (c .before .before .before .before .args .starts .now) (c .before .before .before .before .args .files .now)
+enough c = lists-pass (c .before .before .before .before .args .self) (c .before .before .before .before .args .starts .now) (c .before .before .before .before .args .files .now) (sym (c .before .lists-fail .ensures) ∙ c .if1 .left)
+
+below : (c : tie.Else3) → (eqb (c .before .before .before .before .before .before .before .args .n) 0 || passesTop (range (c .before .before .before .before .before .before .before .args .file) (c .before .before .before .before .before .before .before .args .n))) ≡ false
 unfolding passesTop
-not-outside f n d h = simp (ne-eqb _ _ d, h)
+below c = simp (ne-eqb _ _ (c .before .before .if2 .left), sym (c .before .passes .ensures) ∙ c .if3 .left)
+
+ends : (c : tie.Else3) → c .before .before .before .before .before .before .before .args .file + c .before .before .before .before .before .before .before .args .n ≤ top
+ends c = ltb-false _ _ (sym (c .before .passes .ensures) ∙ c .if3 .left)
+
+sums : (c : tie.Else4) → ltb top (c .before .before .before .before .before .before .before .before .before .args .self .capacity + c .before .before .before .before .before .before .before .before .before .args .n) ≡ false
+sums c = sym (c .before .passes2 .ensures) ∙ c .if4 .left
+
+whole : (c : tie.Else4) → c .before .before .before .before .before .before .before .before .before .args .self .capacity + c .before .before .before .before .before .before .before .before .before .args .n ≤ top
+whole c = ltb-false _ _ (sums c)
 
 lists-fail-requires : tie.Need-lists-fail-requires
 lists-fail-requires c κs = search needs
 
 returns : tie.Need-returns
-returns c = extend-refused (c .before .before .before .before .args .self) (c .before .before .before .before .args .file) (c .before .before .before .before .args .n) (c .before .before .before .before .args .starts .now) (c .before .before .before .before .args .files .now) 1 (λ z. omega arith) (λ v. extend-few (placementOf (c .before .before .before .before .args .self) (c .before .before .before .before .args .starts .now) (c .before .before .before .before .args .files .now)) (c .before .before .before .before .args .file) (c .before .before .before .before .args .n) (c .before .before .before .before .args .starts .now) (c .before .before .before .before .args .files .now) (lists-fail (c .before .before .before .before .args .self) (c .before .before .before .before .args .starts .now) (c .before .before .before .before .args .files .now) v (sym (c .before .lists-fail .ensures) ∙ c .if1 .taken)))
+returns c = let a = c .before .before .before .before .args in extend-refused (a .self) (a .file) (a .n) (a .starts .now) (a .files .now) 1 (λ z. omega arith) (λ v. extend-few (placementOf (a .self) (a .starts .now) (a .files .now)) (a .file) (a .n) (a .starts .now) (a .files .now) (lists-fail (a .self) (a .starts .now) (a .files .now) v (sym (c .before .lists-fail .ensures) ∙ c .if1 .taken)))
 
 returns-2 : tie.Need-returns-2
-returns-2 c = extend-refused (c .before .before .before .before .before .args .self) (c .before .before .before .before .before .args .file) (c .before .before .before .before .before .args .n) (c .before .before .before .before .before .args .starts .now) (c .before .before .before .before .before .args .files .now) 11 (λ z. omega arith) (λ v. extend-outside (placementOf (c .before .before .before .before .before .args .self) (c .before .before .before .before .before .args .starts .now) (c .before .before .before .before .before .args .files .now)) (c .before .before .before .before .before .args .file) (c .before .before .before .before .before .args .n) (c .before .before .before .before .before .args .starts .now) (c .before .before .before .before .before .args .files .now) ((lists-pass (c .before .before .before .before .before .args .self) (c .before .before .before .before .before .args .starts .now) (c .before .before .before .before .before .args .files .now) (sym (c .before .before .lists-fail .ensures) ∙ c .before .if1 .left)) .places) (simp (eq-eqb _ _ (c .if2 .taken))))
+returns-2 c = let a = c .before .before .before .before .before .args in extend-refused (a .self) (a .file) (a .n) (a .starts .now) (a .files .now) 11 (λ z. omega arith) (λ v. extend-outside (placementOf (a .self) (a .starts .now) (a .files .now)) (a .file) (a .n) (a .starts .now) (a .files .now) (enough (c .before) .places) (simp (eq-eqb _ _ (c .if2 .taken))))
 
 passes-requires : tie.Need-passes-requires
 passes-requires c κs = search needs
 
 returns-3 : tie.Need-returns-3
 unfolding passesTop
-returns-3 c = extend-refused (c .before .before .before .before .before .before .before .args .self) (c .before .before .before .before .before .before .before .args .file) (c .before .before .before .before .before .before .before .args .n) (c .before .before .before .before .before .before .before .args .starts .now) (c .before .before .before .before .before .before .before .args .files .now) 11 (λ z. omega arith) (λ v. extend-outside (placementOf (c .before .before .before .before .before .before .before .args .self) (c .before .before .before .before .before .before .before .args .starts .now) (c .before .before .before .before .before .before .before .args .files .now)) (c .before .before .before .before .before .before .before .args .file) (c .before .before .before .before .before .before .before .args .n) (c .before .before .before .before .before .before .before .args .starts .now) (c .before .before .before .before .before .before .before .args .files .now) ((lists-pass (c .before .before .before .before .before .before .before .args .self) (c .before .before .before .before .before .before .before .args .starts .now) (c .before .before .before .before .before .before .before .args .files .now) (sym (c .before .before .before .before .lists-fail .ensures) ∙ c .before .before .before .if1 .left)) .places) (simp (ne-eqb _ _ (c .before .before .if2 .left), sym (c .before .passes .ensures) ∙ c .if3 .taken)))
+returns-3 c = let a = c .before .before .before .before .before .before .before .args in extend-refused (a .self) (a .file) (a .n) (a .starts .now) (a .files .now) 11 (λ z. omega arith) (λ v. extend-outside (placementOf (a .self) (a .starts .now) (a .files .now)) (a .file) (a .n) (a .starts .now) (a .files .now) (enough (c .before .before .before) .places) (simp (ne-eqb _ _ (c .before .before .if2 .left), sym (c .before .passes .ensures) ∙ c .if3 .taken)))
 
 passes-requires-2 : tie.Need-passes-requires-2
 passes-requires-2 c κs = search needs
 
 returns-4 : tie.Need-returns-4
-returns-4 c = extend-refused (c .before .before .before .before .before .before .before .before .before .args .self) (c .before .before .before .before .before .before .before .before .before .args .file) (c .before .before .before .before .before .before .before .before .before .args .n) (c .before .before .before .before .before .before .before .before .before .args .starts .now) (c .before .before .before .before .before .before .before .before .before .args .files .now) 12 (λ z. omega arith) (λ v. extend-over (placementOf (c .before .before .before .before .before .before .before .before .before .args .self) (c .before .before .before .before .before .before .before .before .before .args .starts .now) (c .before .before .before .before .before .before .before .before .before .args .files .now)) (c .before .before .before .before .before .before .before .before .before .args .file) (c .before .before .before .before .before .before .before .before .before .args .n) (c .before .before .before .before .before .before .before .before .before .args .starts .now) (c .before .before .before .before .before .before .before .before .before .args .files .now) ((lists-pass (c .before .before .before .before .before .before .before .before .before .args .self) (c .before .before .before .before .before .before .before .before .before .args .starts .now) (c .before .before .before .before .before .before .before .before .before .args .files .now) (sym (c .before .before .before .before .before .before .lists-fail .ensures) ∙ c .before .before .before .before .before .if1 .left)) .places) (not-outside (c .before .before .before .before .before .before .before .before .before .args .file) (c .before .before .before .before .before .before .before .before .before .args .n) (c .before .before .before .before .if2 .left) (sym (c .before .before .before .passes .ensures) ∙ c .before .before .if3 .left)) (sym (c .before .passes2 .ensures) ∙ c .if4 .taken))
+returns-4 c = let a = c .before .before .before .before .before .before .before .before .before .args in extend-refused (a .self) (a .file) (a .n) (a .starts .now) (a .files .now) 12 (λ z. omega arith) (λ v. extend-over (placementOf (a .self) (a .starts .now) (a .files .now)) (a .file) (a .n) (a .starts .now) (a .files .now) (enough (c .before .before .before .before .before) .places) (below (c .before .before)) (sym (c .before .passes2 .ensures) ∙ c .if4 .taken))
 
 add-map : tie.Need-add-map
-add-map c = omega (arith, (ltb-false top (c .before .before .before .before .before .before .before .before .before .before .args .self .capacity + c .before .before .before .before .before .before .before .before .before .before .args .n) (sym (c .before .before .passes2 .ensures) ∙ c .before .if4 .left)))
+add-map c = let h = whole (c .before) in omega arith
 
 ends-at-requires : tie.Need-ends-at-requires
-ends-at-requires c κs = let e = (lists-pass (c .before .before .before .before .before .before .before .before .before .before .before .before .args .self) (c .before .before .before .before .before .before .before .before .before .before .before .before .args .starts .now) (c .before .before .before .before .before .before .before .before .before .before .before .before .args .files .now) (sym (c .before .before .before .before .before .before .before .before .before .lists-fail .ensures) ∙ c .before .before .before .before .before .before .before .before .if1 .left)) in (e .starts, e .files)
+ends-at-requires c κs = let e = enough (c .before .before .before .before .before .before .before .before) in (e .starts, e .files)
 
 same-length : tie.Need-same-length
 same-length c = search needs
@@ -53,7 +66,7 @@ same-length-2 : tie.Need-same-length-2
 same-length-2 c = search needs
 
 returns-5 : tie.Need-returns-5
-returns-5 c = extend-joins (c .before .before .before .before .before .before .before .before .before .before .before .before .before .before .args .self) (c .before .before .before .before .before .before .before .before .before .before .before .before .before .before .args .file) (c .before .before .before .before .before .before .before .before .before .before .before .before .before .before .args .n) (c .before .before .before .before .before .before .before .before .before .before .before .before .before .before .args .starts .now) (c .before .before .before .before .before .before .before .before .before .before .before .before .before .before .args .files .now) (lists-pass (c .before .before .before .before .before .before .before .before .before .before .before .before .before .before .args .self) (c .before .before .before .before .before .before .before .before .before .before .before .before .before .before .args .starts .now) (c .before .before .before .before .before .before .before .before .before .before .before .before .before .before .args .files .now) (sym (c .before .before .before .before .before .before .before .before .before .before .before .lists-fail .ensures) ∙ c .before .before .before .before .before .before .before .before .before .before .if1 .left)) (not-outside (c .before .before .before .before .before .before .before .before .before .before .before .before .before .before .args .file) (c .before .before .before .before .before .before .before .before .before .before .before .before .before .before .args .n) (c .before .before .before .before .before .before .before .before .before .if2 .left) (sym (c .before .before .before .before .before .before .before .before .passes .ensures) ∙ c .before .before .before .before .before .before .before .if3 .left)) (sym (c .before .before .before .before .before .before .passes2 .ensures) ∙ c .before .before .before .before .before .if4 .left) (ltb-false top (c .before .before .before .before .before .before .before .before .before .before .before .before .before .before .args .file + c .before .before .before .before .before .before .before .before .before .before .before .before .before .before .args .n) (sym (c .before .before .before .before .before .before .before .before .passes .ensures) ∙ c .before .before .before .before .before .before .before .if3 .left)) (ltb-false top (c .before .before .before .before .before .before .before .before .before .before .before .before .before .before .args .self .capacity + c .before .before .before .before .before .before .before .before .before .before .before .before .before .before .args .n) (sym (c .before .before .before .before .before .before .passes2 .ensures) ∙ c .before .before .before .before .before .if4 .left)) (sym (c .before .ends-at .ensures) ∙ c .if5 .taken)
+returns-5 c = let a = c .before .before .before .before .before .before .before .before .before .before .before .before .before .before .args in extend-joins (a .self) (a .file) (a .n) (a .starts .now) (a .files .now) (enough (c .before .before .before .before .before .before .before .before .before .before)) (below (c .before .before .before .before .before .before .before)) (sums (c .before .before .before .before .before)) (ends (c .before .before .before .before .before .before .before)) (whole (c .before .before .before .before .before)) (sym (c .before .ends-at .ensures) ∙ c .if5 .taken)
 
 same-length-3 : tie.Need-same-length-3
 same-length-3 c = search needs
@@ -62,22 +75,22 @@ same-length-4 : tie.Need-same-length-4
 same-length-4 c = search needs
 
 returns-6 : tie.Need-returns-6
-returns-6 c = extend-refused (c .before .before .before .before .before .before .before .before .before .before .before .before .before .before .before .before .args .self) (c .before .before .before .before .before .before .before .before .before .before .before .before .before .before .before .before .args .file) (c .before .before .before .before .before .before .before .before .before .before .before .before .before .before .before .before .args .n) (c .before .before .before .before .before .before .before .before .before .before .before .before .before .before .before .before .args .starts .now) (c .before .before .before .before .before .before .before .before .before .before .before .before .before .before .before .before .args .files .now) 19 (λ z. omega arith) (λ v. extend-full (placementOf (c .before .before .before .before .before .before .before .before .before .before .before .before .before .before .before .before .args .self) (c .before .before .before .before .before .before .before .before .before .before .before .before .before .before .before .before .args .starts .now) (c .before .before .before .before .before .before .before .before .before .before .before .before .before .before .before .before .args .files .now)) (c .before .before .before .before .before .before .before .before .before .before .before .before .before .before .before .before .args .file) (c .before .before .before .before .before .before .before .before .before .before .before .before .before .before .before .before .args .n) (c .before .before .before .before .before .before .before .before .before .before .before .before .before .before .before .before .args .starts .now) (c .before .before .before .before .before .before .before .before .before .before .before .before .before .before .before .before .args .files .now) ((lists-pass (c .before .before .before .before .before .before .before .before .before .before .before .before .before .before .before .before .args .self) (c .before .before .before .before .before .before .before .before .before .before .before .before .before .before .before .before .args .starts .now) (c .before .before .before .before .before .before .before .before .before .before .before .before .before .before .before .before .args .files .now) (sym (c .before .before .before .before .before .before .before .before .before .before .before .before .before .lists-fail .ensures) ∙ c .before .before .before .before .before .before .before .before .before .before .before .before .if1 .left)) .places) (not-outside (c .before .before .before .before .before .before .before .before .before .before .before .before .before .before .before .before .args .file) (c .before .before .before .before .before .before .before .before .before .before .before .before .before .before .before .before .args .n) (c .before .before .before .before .before .before .before .before .before .before .before .if2 .left) (sym (c .before .before .before .before .before .before .before .before .before .before .passes .ensures) ∙ c .before .before .before .before .before .before .before .before .before .if3 .left)) (sym (c .before .before .before .before .before .before .before .before .passes2 .ensures) ∙ c .before .before .before .before .before .before .before .if4 .left) (sym (c .before .before .before .ends-at .ensures) ∙ c .before .before .if5 .left) (omega (arith, runs-length (c .before .before .before .before .before .before .before .before .before .before .before .before .before .before .before .before .args .self) (c .before .before .before .before .before .before .before .before .before .before .before .before .before .before .before .before .args .starts .now) (c .before .before .before .before .before .before .before .before .before .before .before .before .before .before .before .before .args .files .now) v, c .if6 .taken)))
+returns-6 c = let a = c .before .before .before .before .before .before .before .before .before .before .before .before .before .before .before .before .args in extend-refused (a .self) (a .file) (a .n) (a .starts .now) (a .files .now) 19 (λ z. omega arith) (λ v. extend-full (placementOf (a .self) (a .starts .now) (a .files .now)) (a .file) (a .n) (a .starts .now) (a .files .now) (enough (c .before .before .before .before .before .before .before .before .before .before .before .before) .places) (below (c .before .before .before .before .before .before .before .before .before)) (sums (c .before .before .before .before .before .before .before)) (sym (c .before .before .before .ends-at .ensures) ∙ c .before .before .if5 .left) (omega (arith, runs-length (a .self) (a .starts .now) (a .files .now) v, c .if6 .taken)))
 
 mul-starts : tie.Need-mul-starts
-mul-starts c = let e = (lists-pass (c .before .before .before .before .before .before .before .before .before .before .before .before .before .before .before .before .args .self) (c .before .before .before .before .before .before .before .before .before .before .before .before .before .before .before .before .args .starts .now) (c .before .before .before .before .before .before .before .before .before .before .before .before .before .before .before .before .args .files .now) (sym (c .before .before .before .before .before .before .before .before .before .before .before .before .before .lists-fail .ensures) ∙ c .before .before .before .before .before .before .before .before .before .before .before .before .if1 .left)) in omega (arith, e .starts, e .files, e .room, e .wide .0, e .wide .1, c .if6 .left)
+mul-starts c = let e = enough (c .before .before .before .before .before .before .before .before .before .before .before .before) in omega (arith, e .room, e .wide .0, e .wide .1, c .if6 .left)
 
 slice-write-starts : tie.Need-slice-write-starts
-slice-write-starts c = let e = (lists-pass (c .before .before .before .before .before .before .before .before .before .before .before .before .before .before .before .before .args .self) (c .before .before .before .before .before .before .before .before .before .before .before .before .before .before .before .before .args .starts .now) (c .before .before .before .before .before .before .before .before .before .before .before .before .before .before .before .before .args .files .now) (sym (c .before .before .before .before .before .before .before .before .before .before .before .before .before .lists-fail .ensures) ∙ c .before .before .before .before .before .before .before .before .before .before .before .before .if1 .left)) in omega (arith, e .starts, e .files, e .room, e .wide .0, e .wide .1, c .if6 .left)
+slice-write-starts c = let e = enough (c .before .before .before .before .before .before .before .before .before .before .before .before) in omega (arith, e .room, e .wide .0, e .wide .1, c .if6 .left)
 
 mul-files : tie.Need-mul-files
-mul-files c = let e = (lists-pass (c .before .before .before .before .before .before .before .before .before .before .before .before .before .before .before .before .args .self) (c .before .before .before .before .before .before .before .before .before .before .before .before .before .before .before .before .args .starts .now) (c .before .before .before .before .before .before .before .before .before .before .before .before .before .before .before .before .args .files .now) (sym (c .before .before .before .before .before .before .before .before .before .before .before .before .before .lists-fail .ensures) ∙ c .before .before .before .before .before .before .before .before .before .before .before .before .if1 .left)) in omega (arith, e .starts, e .files, e .room, e .wide .0, e .wide .1, c .if6 .left)
+mul-files c = let e = enough (c .before .before .before .before .before .before .before .before .before .before .before .before) in omega (arith, e .room, e .wide .0, e .wide .1, c .if6 .left)
 
 slice-write-files : tie.Need-slice-write-files
-slice-write-files c = let e = (lists-pass (c .before .before .before .before .before .before .before .before .before .before .before .before .before .before .before .before .args .self) (c .before .before .before .before .before .before .before .before .before .before .before .before .before .before .before .before .args .starts .now) (c .before .before .before .before .before .before .before .before .before .before .before .before .before .before .before .before .args .files .now) (sym (c .before .before .before .before .before .before .before .before .before .before .before .before .before .lists-fail .ensures) ∙ c .before .before .before .before .before .before .before .before .before .before .before .before .if1 .left)) in omega (arith, e .starts, e .files, e .room, e .wide .0, e .wide .1, c .if6 .left)
+slice-write-files c = let e = enough (c .before .before .before .before .before .before .before .before .before .before .before .before) in omega (arith, e .room, e .wide .0, e .wide .1, c .if6 .left)
 
 add-map-2 : tie.Need-add-map-2
-add-map-2 c = let e = (lists-pass (c .before .before .before .before .before .before .before .before .before .before .before .before .before .before .before .before .args .self) (c .before .before .before .before .before .before .before .before .before .before .before .before .before .before .before .before .args .starts .now) (c .before .before .before .before .before .before .before .before .before .before .before .before .before .before .before .before .args .files .now) (sym (c .before .before .before .before .before .before .before .before .before .before .before .before .before .lists-fail .ensures) ∙ c .before .before .before .before .before .before .before .before .before .before .before .before .if1 .left)) in omega (arith, e .starts, e .files, e .room, e .wide .0, e .wide .1, c .if6 .left)
+add-map-2 c = let e = enough (c .before .before .before .before .before .before .before .before .before .before .before .before) in omega (arith, e .room, e .wide .0, e .wide .1, c .if6 .left)
 
 same-length-5 : tie.Need-same-length-5
 same-length-5 c = search needs
@@ -86,7 +99,7 @@ same-length-6 : tie.Need-same-length-6
 same-length-6 c = search needs
 
 returns-7 : tie.Need-returns-7
-returns-7 c = let e = (lists-pass (c .before .before .before .before .before .before .before .before .before .before .before .before .before .before .before .before .args .self) (c .before .before .before .before .before .before .before .before .before .before .before .before .before .before .before .before .args .starts .now) (c .before .before .before .before .before .before .before .before .before .before .before .before .before .before .before .before .args .files .now) (sym (c .before .before .before .before .before .before .before .before .before .before .before .before .before .lists-fail .ensures) ∙ c .before .before .before .before .before .before .before .before .before .before .before .before .if1 .left)) in extend-takes (c .before .before .before .before .before .before .before .before .before .before .before .before .before .before .before .before .args .self) (c .before .before .before .before .before .before .before .before .before .before .before .before .before .before .before .before .args .file) (c .before .before .before .before .before .before .before .before .before .before .before .before .before .before .before .before .args .n) (c .before .before .before .before .before .before .before .before .before .before .before .before .before .before .before .before .args .starts .now) (c .before .before .before .before .before .before .before .before .before .before .before .before .before .before .before .before .args .files .now) (lists-pass (c .before .before .before .before .before .before .before .before .before .before .before .before .before .before .before .before .args .self) (c .before .before .before .before .before .before .before .before .before .before .before .before .before .before .before .before .args .starts .now) (c .before .before .before .before .before .before .before .before .before .before .before .before .before .before .before .before .args .files .now) (sym (c .before .before .before .before .before .before .before .before .before .before .before .before .before .lists-fail .ensures) ∙ c .before .before .before .before .before .before .before .before .before .before .before .before .if1 .left)) (not-outside (c .before .before .before .before .before .before .before .before .before .before .before .before .before .before .before .before .args .file) (c .before .before .before .before .before .before .before .before .before .before .before .before .before .before .before .before .args .n) (c .before .before .before .before .before .before .before .before .before .before .before .if2 .left) (sym (c .before .before .before .before .before .before .before .before .before .before .passes .ensures) ∙ c .before .before .before .before .before .before .before .before .before .if3 .left)) (sym (c .before .before .before .before .before .before .before .before .passes2 .ensures) ∙ c .before .before .before .before .before .before .before .if4 .left) (ltb-false top (c .before .before .before .before .before .before .before .before .before .before .before .before .before .before .before .before .args .file + c .before .before .before .before .before .before .before .before .before .before .before .before .before .before .before .before .args .n) (sym (c .before .before .before .before .before .before .before .before .before .before .passes .ensures) ∙ c .before .before .before .before .before .before .before .before .before .if3 .left)) (ltb-false top (c .before .before .before .before .before .before .before .before .before .before .before .before .before .before .before .before .args .self .capacity + c .before .before .before .before .before .before .before .before .before .before .before .before .before .before .before .before .args .n) (sym (c .before .before .before .before .before .before .before .before .passes2 .ensures) ∙ c .before .before .before .before .before .before .before .if4 .left)) (sym (c .before .before .before .ends-at .ensures) ∙ c .before .before .if5 .left) (c .if6 .left) (omega (arith, e .starts, e .files, e .room, e .wide .0, e .wide .1, c .if6 .left)) (omega (arith, e .starts, e .files, e .room, e .wide .0, e .wide .1, c .if6 .left))
+returns-7 c = let a = c .before .before .before .before .before .before .before .before .before .before .before .before .before .before .before .before .args in let e = enough (c .before .before .before .before .before .before .before .before .before .before .before .before) in extend-takes (a .self) (a .file) (a .n) (a .starts .now) (a .files .now) e (below (c .before .before .before .before .before .before .before .before .before)) (sums (c .before .before .before .before .before .before .before)) (ends (c .before .before .before .before .before .before .before .before .before)) (whole (c .before .before .before .before .before .before .before)) (sym (c .before .before .before .ends-at .ensures) ∙ c .before .before .if5 .left) (c .if6 .left) (omega (arith, e .room, e .wide .0, c .if6 .left)) (omega (arith, e .room, e .wide .1, c .if6 .left))
 
 pub extend-spec : {M : Type 1} → statement M
 extend-spec =

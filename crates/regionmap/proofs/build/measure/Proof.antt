@@ -1,18 +1,27 @@
 -- `regionmap::build::measure` meets its contract: the extents in front of i pass their tests.
-use Prim.Native.Nat.{_+_, _-_, _*_, _≤_}
-use mathlib.Core.Path.{sym, _∙_}
+use Prim.Native.Nat.{_+_, _-_, _*_, _≤_, ℕ, _<_}
+use mathlib.Core.List.{List}
+use mathlib.Core.Path.{_≡_, sym, _∙_}
 use native.Mathlib.Omega.{arith}
-use lib.ListN.{getD}
+use lib.ListN.{getD, length}
 use borrow.Author.Needs.{needs}
 use borrow.Author.Tests.{ltb-false}
 use Rattle.numbers.specs.Pairs.{pairs}
-use Rattle.numbers.specs.Range.{range}
+use Rattle.numbers.specs.Range.{range, blank}
 use Rattle.numbers.specs.Sums.{top}
 use Rattle.regionmap.specs.Map.{passesTop}
 use Rattle.numbers.proofs.Pairs.{length-pairs, pair-in, pair-at}
 use Rattle.numbers.proofs.Refusals.{Walked, walk-begins, walk-outside, walk-over, walk-on, walk-ends, walk-sum}
 use Rattle.regionmap.proofs.build.measure.Statement.{statement}
 use Rattle.regionmap.proofs.build.measure.Tie as tie
+
+-- the extent at which the walk stands
+module _ (xs : List ℕ) {n i s : ℕ} (g : Walked passesTop (pairs xs) n i s) (l : i < n) where
+  inside : 2 * i + 1 < length xs
+  inside = pair-in xs i (omega (arith, g .all))
+
+  at : getD (pairs xs) i blank ≡ range (getD xs (2 * i) 0) (getD xs (2 * i + 1) 0)
+  at = pair-at xs i inside
 
 abbrev Inv-loop : tie.InvT-loop
 Inv-loop extents n bytes₀ i₀ bytes i = Walked passesTop (pairs extents) n i bytes
@@ -24,52 +33,52 @@ loop-holds : tie.Need-loop-holds Inv-loop μ-loop
 loop-holds c = walk-begins passesTop (pairs (c .before .args .extents .now)) _ (sym (length-pairs (c .before .args .extents .now)))
 
 mul-len : tie.Need-mul-len Inv-loop μ-loop
-mul-len c = let h = pair-in (c .before .before .before .args .extents .now) (c .before .loop .i) (omega (arith, c .before .loop .inv .all, c .loop-test .taken)) in omega arith
+mul-len c = let h = inside (c .before .before .before .args .extents .now) (c .before .loop .inv) (c .loop-test .taken) in omega arith
 
 add-len : tie.Need-add-len Inv-loop μ-loop
-add-len c = let h = pair-in (c .before .before .before .args .extents .now) (c .before .loop .i) (omega (arith, c .before .loop .inv .all, c .loop-test .taken)) in omega arith
+add-len c = let h = inside (c .before .before .before .args .extents .now) (c .before .loop .inv) (c .loop-test .taken) in omega arith
 
 mul-len-2 : tie.Need-mul-len-2 Inv-loop μ-loop
-mul-len-2 c = let h = pair-in (c .before .before .before .args .extents .now) (c .before .loop .i) (omega (arith, c .before .loop .inv .all, c .loop-test .taken)) in omega arith
+mul-len-2 c = let h = inside (c .before .before .before .args .extents .now) (c .before .loop .inv) (c .loop-test .taken) in omega arith
 
 shared-slice-read-len : tie.Need-shared-slice-read-len Inv-loop μ-loop
-shared-slice-read-len c = let h = pair-in (c .before .before .before .before .args .extents .now) (c .before .before .loop .i) (omega (arith, c .before .before .loop .inv .all, c .before .loop-test .taken)) in omega arith
+shared-slice-read-len c = let h = inside (c .before .before .before .before .args .extents .now) (c .before .before .loop .inv) (c .before .loop-test .taken) in omega arith
 
 mul-passes : tie.Need-mul-passes Inv-loop μ-loop
-mul-passes c = let h = pair-in (c .before .before .before .before .args .extents .now) (c .before .before .loop .i) (omega (arith, c .before .before .loop .inv .all, c .before .loop-test .taken)) in omega arith
+mul-passes c = let h = inside (c .before .before .before .before .args .extents .now) (c .before .before .loop .inv) (c .before .loop-test .taken) in omega arith
 
 mul-passes-2 : tie.Need-mul-passes-2 Inv-loop μ-loop
-mul-passes-2 c = let h = pair-in (c .before .before .before .before .args .extents .now) (c .before .before .loop .i) (omega (arith, c .before .before .loop .inv .all, c .before .loop-test .taken)) in omega arith
+mul-passes-2 c = let h = inside (c .before .before .before .before .args .extents .now) (c .before .before .loop .inv) (c .before .loop-test .taken) in omega arith
 
 shared-slice-read-passes : tie.Need-shared-slice-read-passes Inv-loop μ-loop
-shared-slice-read-passes c = let h = pair-in (c .before .before .before .before .before .args .extents .now) (c .before .before .before .loop .i) (omega (arith, c .before .before .before .loop .inv .all, c .before .before .loop-test .taken)) in omega arith
+shared-slice-read-passes c = let h = inside (c .before .before .before .before .before .args .extents .now) (c .before .before .before .loop .inv) (c .before .before .loop-test .taken) in omega arith
 
 passes-requires : tie.Need-passes-requires Inv-loop μ-loop
 passes-requires c κs = search needs
 
 returns : tie.Need-returns Inv-loop μ-loop
 unfolding passesTop
-returns c = record { number = sym (walk-outside (c .before .before .before .before .before .loop .inv) (c .before .before .before .before .loop-test .taken) (range (getD (c .before .before .before .before .before .before .before .args .extents .now) (2 * c .before .before .before .before .before .loop .i) 0) (getD (c .before .before .before .before .before .before .before .args .extents .now) (2 * c .before .before .before .before .before .loop .i + 1) 0)) (pair-at (c .before .before .before .before .before .before .before .args .extents .now) (c .before .before .before .before .before .loop .i) (pair-in (c .before .before .before .before .before .before .before .args .extents .now) (c .before .before .before .before .before .loop .i) (omega (arith, c .before .before .before .before .before .loop .inv .all, c .before .before .before .before .loop-test .taken)))) (sym (c .before .passes .ensures) ∙ c .if1 .taken)); sum = λ z. absurd (omega arith) }
+returns c = record { number = sym (walk-outside (c .before .before .before .before .before .loop .inv) (c .before .before .before .before .loop-test .taken) _ (at (c .before .before .before .before .before .before .before .args .extents .now) (c .before .before .before .before .before .loop .inv) (c .before .before .before .before .loop-test .taken)) (sym (c .before .passes .ensures) ∙ c .if1 .taken)); sum = λ z. absurd (omega arith) }
 
 passes-requires-2 : tie.Need-passes-requires-2 Inv-loop μ-loop
 passes-requires-2 c κs = search needs
 
 returns-2 : tie.Need-returns-2 Inv-loop μ-loop
 unfolding passesTop
-returns-2 c = record { number = sym (walk-over (c .before .before .before .before .before .before .before .loop .inv) (c .before .before .before .before .before .before .loop-test .taken) (range (getD (c .before .before .before .before .before .before .before .before .before .args .extents .now) (2 * c .before .before .before .before .before .before .before .loop .i) 0) (getD (c .before .before .before .before .before .before .before .before .before .args .extents .now) (2 * c .before .before .before .before .before .before .before .loop .i + 1) 0)) (pair-at (c .before .before .before .before .before .before .before .before .before .args .extents .now) (c .before .before .before .before .before .before .before .loop .i) (pair-in (c .before .before .before .before .before .before .before .before .before .args .extents .now) (c .before .before .before .before .before .before .before .loop .i) (omega (arith, c .before .before .before .before .before .before .before .loop .inv .all, c .before .before .before .before .before .before .loop-test .taken)))) (sym (c .before .before .before .passes .ensures) ∙ c .before .before .if1 .left) (sym (c .before .passes2 .ensures) ∙ c .if2 .taken)); sum = λ z. absurd (omega arith) }
+returns-2 c = record { number = sym (walk-over (c .before .before .before .before .before .before .before .loop .inv) (c .before .before .before .before .before .before .loop-test .taken) _ (at (c .before .before .before .before .before .before .before .before .before .args .extents .now) (c .before .before .before .before .before .before .before .loop .inv) (c .before .before .before .before .before .before .loop-test .taken)) (sym (c .before .before .before .passes .ensures) ∙ c .before .before .if1 .left) (sym (c .before .passes2 .ensures) ∙ c .if2 .taken)); sum = λ z. absurd (omega arith) }
 
 add-bytes : tie.Need-add-bytes Inv-loop μ-loop
 add-bytes c = let h : c .before .before .before .before .before .before .before .loop .bytes + getD (c .before .before .before .before .before .before .before .before .before .args .extents .now) (2 * c .before .before .before .before .before .before .before .loop .i + 1) 0 ≤ top = ltb-false _ _ (sym (c .before .passes2 .ensures) ∙ c .if2 .left) in omega arith
 
 add-i : tie.Need-add-i Inv-loop μ-loop
-add-i c = let h = pair-in (c .before .before .before .before .before .before .before .before .before .args .extents .now) (c .before .before .before .before .before .before .before .loop .i) (omega (arith, c .before .before .before .before .before .before .before .loop .inv .all, c .before .before .before .before .before .before .loop-test .taken)) in omega arith
+add-i c = let h = inside (c .before .before .before .before .before .before .before .before .before .args .extents .now) (c .before .before .before .before .before .before .before .loop .inv) (c .before .before .before .before .before .before .loop-test .taken) in omega arith
 
 loop-less : tie.Need-loop-less Inv-loop μ-loop
 loop-less c = omega arith
 
 loop-again : tie.Need-loop-again Inv-loop μ-loop
 unfolding passesTop
-loop-again c = walk-on (c .before .before .before .before .before .before .before .loop .inv) (c .before .before .before .before .before .before .loop-test .taken) (range (getD (c .before .before .before .before .before .before .before .before .before .args .extents .now) (2 * c .before .before .before .before .before .before .before .loop .i) 0) (getD (c .before .before .before .before .before .before .before .before .before .args .extents .now) (2 * c .before .before .before .before .before .before .before .loop .i + 1) 0)) (pair-at (c .before .before .before .before .before .before .before .before .before .args .extents .now) (c .before .before .before .before .before .before .before .loop .i) (pair-in (c .before .before .before .before .before .before .before .before .before .args .extents .now) (c .before .before .before .before .before .before .before .loop .i) (omega (arith, c .before .before .before .before .before .before .before .loop .inv .all, c .before .before .before .before .before .before .loop-test .taken)))) (sym (c .before .before .before .passes .ensures) ∙ c .before .before .if1 .left) (sym (c .before .passes2 .ensures) ∙ c .if2 .left)
+loop-again c = walk-on (c .before .before .before .before .before .before .before .loop .inv) (c .before .before .before .before .before .before .loop-test .taken) _ (at (c .before .before .before .before .before .before .before .before .before .args .extents .now) (c .before .before .before .before .before .before .before .loop .inv) (c .before .before .before .before .before .before .loop-test .taken)) (sym (c .before .before .before .passes .ensures) ∙ c .before .before .if1 .left) (sym (c .before .passes2 .ensures) ∙ c .if2 .left)
 
 returns-3 : tie.Need-returns-3 Inv-loop μ-loop
 returns-3 c = record { number = sym (walk-ends (c .before .loop .inv) (c .loop-test .left)); sum = λ z. walk-sum (c .before .loop .inv) (c .loop-test .left) }
