@@ -1,16 +1,16 @@
 // A check: 1, limits, region, entry, header, a list of extents, how many places scratch has, the
 // refusal, the extra's offset and length, the part's length, and scratch afterwards. Before the
 // call every place of scratch holds 7, and both slots of the extra hold 9.
-use crate::words::at;
-use crate::words::first;
-use crate::words::list;
-use crate::words::past;
-use crate::words::past_list;
-use crate::words::same;
 use footprint::Entry;
 use footprint::Header;
 use footprint::Limits;
 use footprint::RegionKind;
+use sample::words::at;
+use sample::words::first;
+use sample::words::list;
+use sample::words::past;
+use sample::words::past_list;
+use sample::words::same;
 ghost use Prim.Native.Nat.{_-_, _≤_};
 ghost use lib.ListN.{length};
 

@@ -2,14 +2,13 @@
 // each case, 1 or 2, what is asked, and what the Rust answers (compare/sample writes it).
 mod checks;
 mod runs;
-mod words;
 
 use checks::check_alike;
 use checks::past_check;
 use runs::past_runs;
 use runs::runs_alike;
-use words::at;
-use words::past;
+use sample::words::at;
+use sample::words::past;
 ghost use Prim.Native.Nat.{_<_};
 ghost use lib.ListN.{length};
 

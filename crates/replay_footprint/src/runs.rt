@@ -1,11 +1,11 @@
 // Runs: 2, a list of extents, how many runs they make, and the runs' starts, files and lengths.
-use crate::words::at;
-use crate::words::first;
-use crate::words::list;
-use crate::words::past;
-use crate::words::past_list;
-use crate::words::same;
 use footprint::RunCount;
+use sample::words::at;
+use sample::words::first;
+use sample::words::list;
+use sample::words::past;
+use sample::words::past_list;
+use sample::words::same;
 ghost use Prim.Native.Nat.{_-_, _≤_};
 ghost use lib.ListN.{length};
 

@@ -1,4 +1,6 @@
 // The numbers of a text, for the programs that replay stored answers of the Rust.
+pub mod words;
+
 ghost use mathlib.Core.Bool.{true};
 ghost use mathlib.Core.Path.{_≡_};
 ghost use Prim.Native.Nat.{_-_, _≤_};

@@ -3,7 +3,7 @@ ghost use Prim.Native.Nat.{_-_, _≤_};
 ghost use lib.ListN.{length};
 
 // The number at place i, 0 where there is none.
-pub(crate) fn at(w: &[u64], i: usize) -> u64 {
+pub fn at(w: &[u64], i: usize) -> u64 {
     if i < w.len() {
         return w[i];
     }
@@ -11,7 +11,7 @@ pub(crate) fn at(w: &[u64], i: usize) -> u64 {
 }
 
 // The first n numbers, or all where there are fewer.
-pub(crate) fn first(w: &[u64], n: u64) -> &[u64] {
+pub fn first(w: &[u64], n: u64) -> &[u64] {
     if n < w.len() as u64 {
         let end = n as usize;
         return &w[0..end];
@@ -20,7 +20,7 @@ pub(crate) fn first(w: &[u64], n: u64) -> &[u64] {
 }
 
 // What follows the first n numbers.
-pub(crate) fn past(w: &[u64], n: u64) -> &[u64]
+pub fn past(w: &[u64], n: u64) -> &[u64]
     ensures { λ r. ⌜ length (now r) ≤ length (now (w .entry)) - n ⌝ }
 {
     if n < w.len() as u64 {
@@ -32,18 +32,18 @@ pub(crate) fn past(w: &[u64], n: u64) -> &[u64]
 }
 
 // The list that w begins with: its length, and so many numbers.
-pub(crate) fn list(w: &[u64]) -> &[u64] {
+pub fn list(w: &[u64]) -> &[u64] {
     first(past(w, 1), at(w, 0))
 }
 
 // What follows the list that w begins with.
-pub(crate) fn past_list(w: &[u64]) -> &[u64]
+pub fn past_list(w: &[u64]) -> &[u64]
     ensures { λ r. ⌜ length (now r) ≤ length (now (w .entry)) - 1 ⌝ }
 {
     past(past(w, 1), at(w, 0))
 }
 
-pub(crate) fn same(a: &[u64], b: &[u64]) -> bool {
+pub fn same(a: &[u64], b: &[u64]) -> bool {
     if a.len() != b.len() {
         return false;
     }

@@ -1,11 +1,11 @@
--- `replay_footprint::words::same` is safe and ends: both lists have the same length.
+-- `sample::words::same` is safe and ends: both lists have the same length.
 use Prim.Native.Nat.{_-_, _≤_}
 use mathlib.Core.Path.{_≡_}
 use native.Mathlib.Omega.{arith}
 use lib.ListN.{length}
 use borrow.Author.Needs.{needs}
-use Rattle.replay_footprint.proofs.words.same.Statement.{statement}
-use Rattle.replay_footprint.proofs.words.same.Tie as tie
+use Rattle.sample.proofs.words.same.Statement.{statement}
+use Rattle.sample.proofs.words.same.Tie as tie
 
 abbrev Inv-loop : tie.InvT-loop
 Inv-loop a b i₀ i = (length a ≡ length b) × (i ≤ length a)
