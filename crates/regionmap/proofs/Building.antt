@@ -1,12 +1,11 @@
 -- Extents joined to a map's runs, one extent after another.
 use Prim.Native.Nat.{ℕ, suc, _+_, _-_, _*_, _/_, _≤_, _<_}
-use mathlib.Core.Bool.{false}
 use mathlib.Core.List.{List, [], _∷_, _++_, map}
 use mathlib.Core.Path.{_≡_, refl, ap, sym, subst, _∙_}
 use native.Mathlib.Omega.{arith}
 use lib.ListN.{length, getD, take, drop, set, length-append}
 use lib.Seq.{take-suc, take-all}
-use borrow.Author.Tests.{eq-eqb, ne-eqb, ltb-false}
+use borrow.Author.Tests.{eq-eqb, ne-eqb}
 use Rattle.footprint.specs.Runs.{Run, run, blankRun, runsOf}
 use Rattle.numbers.specs.Lists.{All, written}
 use Rattle.numbers.specs.Pairs.{pairs}
@@ -16,12 +15,11 @@ use Rattle.numbers.specs.Sums.{top, sum}
 use Rattle.regionmap.specs.Inner.{Laid}
 use Rattle.regionmap.specs.Map.{passesTop, withFirst, fileEnd, longer, extendedRuns}
 use Rattle.footprint.proofs.Joining.{fills, same-length}
-use Rattle.numbers.proofs.Lists.{all-at, all-imp}
+use Rattle.numbers.proofs.Lists.{all-at}
 use Rattle.numbers.proofs.Pairs.{length-pairs, pair-in, pair-at}
-use Rattle.numbers.proofs.Refusals.{each-inside, each-sum}
 use Rattle.numbers.proofs.Sums.{total-one, total-take}
 use Rattle.regionmap.proofs.Bytes.{longer-length}
-use Rattle.regionmap.proofs.Extents.{runs-skip, runs-none, none-total, runs-first, runs-next}
+use Rattle.regionmap.proofs.Extents.{each-ends, each-whole, runs-skip, runs-none, none-total, runs-first, runs-next}
 
 -- ---- the last run longer, and one run more
 
@@ -106,15 +104,15 @@ pub record Building (xs ss₀ ss fs₀ fs : List ℕ) (n from count at end i : �
 
 module _ (xs ss₀ fs₀ : List ℕ) where
   pub build-begins : (eachExtent passesTop 0 (pairs xs) ≡ 0) × (length (pairs xs) ≤ length ss₀) × (length (pairs xs) ≤ length fs₀) → Building xs ss₀ ss₀ fs₀ fs₀ (length xs / 2) 0 0 0 0 0
-  unfolding sum fileEnd passesTop
+  unfolding sum fileEnd
   build-begins p =
       let l = length-pairs xs in
       record {
         all = sym l;
         below = omega arith;
         rooms = (omega (arith, p .1), omega (arith, p .2));
-        inside = all-imp (λ (x : Range). passesTop x ≡ false) (λ (x : Range). x .offset + x .len ≤ top) (λ x f. ltb-false _ _ f) (pairs xs) (each-inside passesTop 0 (pairs xs) (p .0));
-        whole = let h = each-sum passesTop 0 (pairs xs) (omega arith) (p .0) in omega arith;
+        inside = each-ends (pairs xs) (p .0);
+        whole = each-whole (pairs xs) (p .0);
         sums = refl;
         head = blankRun;
         rest = [];

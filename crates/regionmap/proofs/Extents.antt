@@ -1,19 +1,23 @@
 -- The runs of extents, one extent after another.
 use Prim.Native.Nat.{suc, ℕ, _+_, _≤_, _<_}
+use mathlib.Core.Bool.{false}
 use mathlib.Core.List.{List, [], _∷_, _++_}
 use mathlib.Core.Path.{_≡_, refl, ap, sym, _∙_}
 use native.Mathlib.Omega.{arith}
 use lib.Dec.{eqb}
 use lib.ListN.{length}
-use borrow.Author.Tests.{eq-eqb, ne-eqb}
+use borrow.Author.Tests.{eq-eqb, ne-eqb, ltb-false}
 use Rattle.footprint.specs.Runs.{Run, run, notEmpty, joins, joinedTo, joined, runsFrom, runsOf}
 use Rattle.numbers.specs.Lists.{All}
 use Rattle.numbers.specs.Range.{Range, range, total}
+use Rattle.numbers.specs.Refusals.{eachExtent}
 use Rattle.numbers.specs.Sums.{top, stop, sum}
-use Rattle.regionmap.specs.Map.{EndToEnd, fileEnd, longer, extendedRuns}
+use Rattle.regionmap.specs.Map.{EndToEnd, fileEnd, longer, extendedRuns, passesTop}
 use Rattle.footprint.proofs.Joining.{joins-true, true-joins}
 use Rattle.footprint.proofs.Positions.{total-joined, total-notEmpty}
 use Rattle.numbers.proofs.Cases.{cases, by-eq}
+use Rattle.numbers.proofs.Lists.{all-imp}
+use Rattle.numbers.proofs.Refusals.{each-inside, each-sum}
 
 -- ---- an extent more, of length 0
 
@@ -173,3 +177,12 @@ runs-few xs =
     let b = few-joined (notEmpty xs) in
     let c = few-kept xs in
     omega arith
+
+-- extents of which none was refused: each ends at or below 2^64 - 1, and so do their lengths together
+module _ (xs : List Range) (z : eachExtent passesTop 0 xs ≡ 0) where
+  pub each-ends : All (λ (x : Range). x .offset + x .len ≤ top) xs
+  unfolding passesTop
+  each-ends = all-imp (λ (x : Range). passesTop x ≡ false) (λ (x : Range). x .offset + x .len ≤ top) (λ x f. ltb-false _ _ f) xs (each-inside passesTop 0 xs z)
+
+  pub each-whole : total xs ≤ top
+  each-whole = let h = each-sum passesTop 0 xs (omega arith) z in omega arith

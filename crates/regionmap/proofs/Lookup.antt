@@ -18,7 +18,7 @@ use Rattle.numbers.proofs.Cases.{or-false, by-lt}
 use Rattle.numbers.proofs.Lists.{all-at}
 use Rattle.regionmap.proofs.Bytes.{run-at}
 use Rattle.regionmap.proofs.Means.{same-count, runs-count, means-at}
-use Rattle.regionmap.proofs.Order.{laid-rising, laid-next, laid-last}
+use Rattle.regionmap.proofs.Order.{at, laid-rising, laid-next, laid-last}
 use mathlib.Core.Bool as Bool
 
 -- the lists are long enough for the runs
@@ -41,9 +41,6 @@ lists-pass m ss fs e =
 
 abbrev runs : RegionMap → List ℕ → List ℕ → List Run
 runs m ss fs = placementOf m ss fs .runs
-
-abbrev at : List Run → ℕ → Run
-at rs k = getD rs k blankRun
 
 module _ (m : RegionMap) (ss fs : List ℕ) (v : Valid m ss fs) where
   ls : length (take (m .count) ss) ≡ m .count

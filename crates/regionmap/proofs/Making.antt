@@ -6,20 +6,18 @@ use mathlib.Core.Path.{_≡_, refl, ap, sym, subst, _∙_}
 use native.Mathlib.Omega.{arith}
 use lib.ListN.{length, getD, take, drop, length-append, length-map, length-drop}
 use lib.Seq.{take-at}
-use borrow.Author.Tests.{ne-eqb, le-ltb, lt-ltb, ltb-false}
+use borrow.Author.Tests.{ne-eqb, le-ltb, lt-ltb}
 use Rattle.footprint.specs.Runs.{Run, blankRun, runsOf}
 use Rattle.numbers.specs.Lists.{All, written}
 use Rattle.numbers.specs.Pairs.{pairs}
-use Rattle.numbers.specs.Range.{Range, total}
+use Rattle.numbers.specs.Range.{total}
 use Rattle.numbers.specs.Refusals.{first, refuse, eachExtent}
 use Rattle.numbers.specs.Sums.{top}
 use Rattle.regionmap.specs.Inner.{Laid}
 use Rattle.regionmap.specs.Map.{runsTo, placementOf, EndToEnd, Sound, limit, extentsFail, passesTop, fromRefusal, withFirst, placed, Made}
 use Rattle.regionmap.specs.declared.Mapped.the-variants.{Map, Refused}
 use Rattle.regionmap.specs.declared.RegionMap.{RegionMap}
-use Rattle.numbers.proofs.Lists.{all-imp}
-use Rattle.numbers.proofs.Refusals.{each-inside, each-sum}
-use Rattle.regionmap.proofs.Extents.{runs-laid, runs-inside, runs-few}
+use Rattle.regionmap.proofs.Extents.{each-ends, each-whole, runs-laid, runs-inside, runs-few}
 use Rattle.regionmap.proofs.Means.{means-runs}
 use Rattle.regionmap.proofs.Records.{refuses, accepts}
 
@@ -85,16 +83,12 @@ module _ (xs : List ℕ) (len : ℕ) (ss₀ fs₀ : List ℕ) where
       }
 
   module _ (a : extentsFail xs ss₀ fs₀ ≡ false) (b : eachExtent passesTop 0 (pairs xs) ≡ 0) (c : len ≤ total (pairs xs)) (few : length (pairs xs) ≤ limit) where
-    whole : total (pairs xs) ≤ top
-    whole = let h = each-sum passesTop 0 (pairs xs) (omega arith) b in omega arith
-
     sound-placed : Sound (placed (pairs xs) len)
-    unfolding passesTop
     sound-placed =
         record {
-          laid = laid-first (runsOf (pairs xs)) (total (pairs xs)) (runs-laid (pairs xs) whole);
-          inside = inside-first (runsOf (pairs xs)) (runs-inside (pairs xs) (all-imp (λ (x : Range). passesTop x ≡ false) (λ (x : Range). x .offset + x .len ≤ top) (λ x f. ltb-false _ _ f) (pairs xs) (each-inside passesTop 0 (pairs xs) b)));
-          whole = whole;
+          laid = laid-first (runsOf (pairs xs)) (total (pairs xs)) (runs-laid (pairs xs) (each-whole (pairs xs) b));
+          inside = inside-first (runsOf (pairs xs)) (runs-inside (pairs xs) (each-ends (pairs xs) b));
+          whole = each-whole (pairs xs) b;
           fits = c;
           counted = count-first (runsOf (pairs xs));
           limited = let h = runs-few (pairs xs) in omega arith;
@@ -111,7 +105,7 @@ module _ (xs : List ℕ) (len : ℕ) (ss₀ fs₀ : List ℕ) where
       made-map = record { first = from; len = len; capacity = bytes; count = count; room = count }
 
       made-runs : runsTo bytes 0 from (take count ss) (take count fs) ≡ withFirst (runsOf (pairs xs))
-      made-runs = rw (starts-front .0, files-front .0, s, l .from) (means-first (runsOf (pairs xs)) (total (pairs xs)) (runs-laid (pairs xs) whole))
+      made-runs = rw (starts-front .0, files-front .0, s, l .from) (means-first (runsOf (pairs xs)) (total (pairs xs)) (runs-laid (pairs xs) (each-whole (pairs xs) b)))
 
       made-means : placementOf made-map ss fs ≡ placed (pairs xs) len
       made-means = λ i. record { runs = made-runs i; capacity = s i; len = len; room = l .later i }

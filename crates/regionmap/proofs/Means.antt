@@ -5,12 +5,10 @@ use mathlib.Core.Path.{_≡_, refl, ap, sym, _∙_}
 use native.Mathlib.Omega.{arith}
 use lib.ListN.{length, getD, take}
 use lib.Seq.{length-take-le, getD-take}
-use Rattle.footprint.specs.Runs.{Run, run, blankRun}
+use Rattle.footprint.specs.Runs.{Run, run}
 use Rattle.regionmap.specs.Map.{runsTo, placementOf, EndToEnd, fileEnd, longer}
 use Rattle.regionmap.specs.declared.RegionMap.{RegionMap}
-
-abbrev at : List Run → ℕ → Run
-at rs k = getD rs k blankRun
+use Rattle.regionmap.proofs.Order.{at}
 
 -- ---- the runs that starts and file offsets stand for
 

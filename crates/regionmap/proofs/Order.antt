@@ -9,7 +9,8 @@ use Rattle.footprint.specs.Runs.{Run, blankRun}
 use Rattle.regionmap.specs.Map.{EndToEnd}
 use Rattle.numbers.proofs.Cases.{by-eq}
 
-abbrev at : List Run → ℕ → Run
+-- the run k
+abbrev pub at : List Run → ℕ → Run
 at rs k = getD rs k blankRun
 
 -- each starts where those in front of it end, or later
