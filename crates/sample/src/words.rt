@@ -1,9 +1,13 @@
 // Reading a list of numbers that may be shorter than it says.
+ghost use mathlib.Core.Path.{_≡_};
 ghost use Prim.Native.Nat.{_-_, _≤_};
-ghost use lib.ListN.{length};
+ghost use lib.ListN.{length, getD, take, drop};
+ghost use Rattle.sample.specs.Sample.{Same};
 
 // The number at place i, 0 where there is none.
-pub fn at(w: &[u64], i: usize) -> u64 {
+pub fn at(w: &[u64], i: usize) -> u64
+    ensures { λ r. ⌜ r ≡ getD (now (w .entry)) i 0 ⌝ }
+{
     if i < w.len() {
         return w[i];
     }
@@ -11,7 +15,9 @@ pub fn at(w: &[u64], i: usize) -> u64 {
 }
 
 // The first n numbers, or all where there are fewer.
-pub fn first(w: &[u64], n: u64) -> &[u64] {
+pub fn first(w: &[u64], n: u64) -> &[u64]
+    ensures { λ r. ⌜ now r ≡ take n (now (w .entry)) ⌝ }
+{
     if n < w.len() as u64 {
         let end = n as usize;
         return &w[0..end];
@@ -21,6 +27,7 @@ pub fn first(w: &[u64], n: u64) -> &[u64] {
 
 // What follows the first n numbers.
 pub fn past(w: &[u64], n: u64) -> &[u64]
+    ensures { λ r. ⌜ now r ≡ drop n (now (w .entry)) ⌝ }
     ensures { λ r. ⌜ length (now r) ≤ length (now (w .entry)) - n ⌝ }
 {
     if n < w.len() as u64 {
@@ -32,18 +39,24 @@ pub fn past(w: &[u64], n: u64) -> &[u64]
 }
 
 // The list that w begins with: its length, and so many numbers.
-pub fn list(w: &[u64]) -> &[u64] {
+pub fn list(w: &[u64]) -> &[u64]
+    ensures { λ r. ⌜ now r ≡ take (getD (now (w .entry)) 0 0) (drop 1 (now (w .entry))) ⌝ }
+{
     first(past(w, 1), at(w, 0))
 }
 
 // What follows the list that w begins with.
 pub fn past_list(w: &[u64]) -> &[u64]
+    ensures { λ r. ⌜ now r ≡ drop (getD (now (w .entry)) 0 0) (drop 1 (now (w .entry))) ⌝ }
     ensures { λ r. ⌜ length (now r) ≤ length (now (w .entry)) - 1 ⌝ }
 {
     past(past(w, 1), at(w, 0))
 }
 
-pub fn same(a: &[u64], b: &[u64]) -> bool {
+// Whether two lists are the same.
+pub fn same(a: &[u64], b: &[u64]) -> bool
+    ensures { λ r. ⌜ Same (now (a .entry)) (now (b .entry)) r ⌝ }
+{
     if a.len() != b.len() {
         return false;
     }
