@@ -54,13 +54,13 @@ EndToEnd a (r ∷ rs) b = (r .start ≡ a) × EndToEnd (a + r .len) rs b
 
 -- The runs lie end to end up to the capacity and end in the file at or below 2^64 - 1, the length is at most the capacity, and the
 -- runs after the first have room.
-pub record Sound (p : Placement) : Type 0 where
-  pub laid : EndToEnd 0 (p .runs) (p .capacity)
-  pub inside : All (λ (r : Run). r .file + r .len ≤ top) (p .runs)
-  pub whole : p .capacity ≤ top
-  pub fits : p .len ≤ p .capacity
-  pub counted : length (p .runs) ≤ p .room + 1
-  pub limited : p .room ≤ limit
+pub record Sound (m : Placement) : Type 0 where
+  pub laid : EndToEnd 0 (m .runs) (m .capacity)
+  pub inside : All (λ (r : Run). r .file + r .len ≤ top) (m .runs)
+  pub whole : m .capacity ≤ top
+  pub fits : m .len ≤ m .capacity
+  pub counted : length (m .runs) ≤ m .room + 1
+  pub limited : m .room ≤ limit
 
 -- What every map that a call handed back has, with the lists as that call left them.
 pub record Valid (m : RegionMap) (ss fs : List ℕ) : Type 0 where
@@ -79,9 +79,9 @@ abbrev pub outcomeOf : Mapped → List ℕ → List ℕ → Outcome
 outcomeOf (Map m) ss fs = record { number = 0; placement = placementOf m ss fs ∷ [] }
 outcomeOf (Refused n) ss fs = record { number = n; placement = [] }
 
--- "A refused call returns its number alone": the refusal n, or the placement p where n is 0.
+-- "A refused call returns its number alone": the refusal n, or the placement m where n is 0.
 unfoldable pub refusedOr : ℕ → Placement → Outcome
-refusedOr n p = cond (eqb n 0) (record { number = 0; placement = p ∷ [] }) (record { number = n; placement = [] })
+refusedOr n m = cond (eqb n 0) (record { number = 0; placement = m ∷ [] }) (record { number = n; placement = [] })
 
 -- The map that is handed back, if one is, is valid.
 abbrev pub HandsValid : Mapped → List ℕ → List ℕ → Type 0
@@ -131,8 +131,9 @@ pub record Made (xs : List ℕ) (len : ℕ) (ss₀ ss fs₀ fs : List ℕ) (r : 
 unfoldable pub roomRefusal : ℕ → List ℕ → List ℕ → ℕ
 roomRefusal n ss fs = refuse 1 (ltb limit n || tooFew n ss fs)
 
+-- Room for n runs after the first, or what there was where that is more.
 abbrev pub withRoom : Placement → ℕ → Placement
-withRoom p n = record { runs = p .runs; capacity = p .capacity; len = p .len; room = max (p .room) n }
+withRoom m n = record { runs = m .runs; capacity = m .capacity; len = m .len; room = max (m .room) n }
 
 -- What `with_room` promises of any record; it only reads the lists.
 pub record Roomed (m : RegionMap) (n : ℕ) (ss fs : List ℕ) (r : Mapped) : Type 0 where
@@ -141,7 +142,7 @@ pub record Roomed (m : RegionMap) (n : ℕ) (ss fs : List ℕ) (r : Mapped) : Ty
 
 -- "`publish_len` never lowers."
 abbrev pub published : Placement → ℕ → Placement
-published p n = record { runs = p .runs; capacity = p .capacity; len = max (p .len) n; room = p .room }
+published m n = record { runs = m .runs; capacity = m .capacity; len = max (m .len) n; room = m .room }
 
 -- What `publish_len` promises of any record, with whatever lists hold its runs; 23 is "A .. length .. passes the .. capacity".
 pub record Published (m : RegionMap) (n : ℕ) (r : Mapped) : Type 0 where
@@ -166,16 +167,17 @@ longer n (r ∷ q ∷ rs) = r ∷ longer n (q ∷ rs)
 unfoldable pub extendedRuns : List Run → ℕ → ℕ → ℕ → List Run
 extendedRuns rs cap f n = cond (eqb (fileEnd rs) f) (longer n rs) (rs ++ (run cap f n ∷ []))
 
+-- The bytes come behind the capacity; how many are published stays as it was.
 abbrev pub extended : Placement → ℕ → ℕ → Placement
-extended p f n = record { runs = extendedRuns (p .runs) (p .capacity) f n; capacity = p .capacity + n; len = p .len; room = p .room }
+extended m f n = record { runs = extendedRuns (m .runs) (m .capacity) f n; capacity = m .capacity + n; len = m .len; room = m .room }
 
 -- 11 is also "a map extension is empty"; 12, "The sum of extents passes 2^64 - 1", of the capacity; 19, "a run beyond the room".
 unfoldable pub extendRefusal : Placement → ℕ → ℕ → List ℕ → List ℕ → ℕ
-extendRefusal p f n ss fs =
-    first (refuse 1 (tooFew (p .room) ss fs) ∷
+extendRefusal m f n ss fs =
+    first (refuse 1 (tooFew (m .room) ss fs) ∷
     refuse 11 (eqb n 0 || passesTop (range f n)) ∷
-    refuse 12 (ltb top (p .capacity + n)) ∷
-    refuse 19 (not (eqb (fileEnd (p .runs)) f) && ltb (p .room) (length (p .runs))) ∷ [])
+    refuse 12 (ltb top (m .capacity + n)) ∷
+    refuse 19 (not (eqb (fileEnd (m .runs)) f) && ltb (m .room) (length (m .runs))) ∷ [])
 
 -- The map that is handed back has a run more.
 abbrev pub takesPlace : RegionMap → Mapped → Bool
@@ -252,6 +254,6 @@ pub record Written (m : RegionMap) (ss fs out₀ out : List ℕ) (c : Count) : T
 -- ---- the extents of a map
 
 -- The map's runs are those of the extents xs, behind an empty first run where the map began without extents.
-pub record Lays (p : Placement) (xs : List Range) : Type 0 where
-  pub runs : (p .runs ≡ runsOf xs) ⊎ (p .runs ≡ blankRun ∷ runsOf xs)
-  pub capacity : p .capacity ≡ total xs
+pub record Lays (m : Placement) (xs : List Range) : Type 0 where
+  pub runs : (m .runs ≡ runsOf xs) ⊎ (m .runs ≡ blankRun ∷ runsOf xs)
+  pub capacity : m .capacity ≡ total xs
