@@ -1,0 +1,9 @@
+pub mod Tests
+pub mod Indices
+pub mod Reading
+pub mod Tree
+pub mod Ranking
+pub mod Laying
+pub mod Naming
+pub mod Namesakes
+pub mod Sweeping

@@ -1,0 +1,47 @@
+-- What the steps of `settle` do; it promises nothing by these.
+use Prim.Native.Nat.{ℕ, _+_, _*_, _≤_, _<_, max}
+use mathlib.Core.Bool.{Bool, false, _&&_, _||_}
+use mathlib.Core.List.{List, []}
+use mathlib.Core.Logic.{_⊎_}
+use mathlib.Core.Path.{_≡_}
+use lib.Dec.{ltb, leb}
+use lib.ListN.{length, getD, take, drop}
+use Rattle.numbers.specs.Lists.{All, any}
+use Rattle.numbers.specs.Pairs.{isOdd, pairs}
+use Rattle.settle.specs.Regions.{Lent, Region}
+use Rattle.settle.specs.Settle.{rangesIn}
+
+-- A tree of greatest numbers: the leaf of rank k stands at 2,048 + k, and the node n, from 1, above the nodes 2n and 2n + 1.
+pub record Tree (t : List ℕ) : Type 0 where
+  pub size : length t ≡ 4096
+  pub above : (n : ℕ) → 1 ≤ n → n < 2048 → getD t n 0 ≡ max (getD t (2 * n) 0) (getD t (2 * n + 1) 0)
+
+-- Some leaf from rank k on holds more than x.
+unfoldable pub reach : List ℕ → ℕ → ℕ → Bool
+reach t k x = any (ltb x) (drop (2048 + k) t)
+
+-- t after value was put in at a rank.
+pub record Raised (t₀ t : List ℕ) (rank value : ℕ) : Type 0 where
+  pub tree : Tree t
+  pub reaches : (k x : ℕ) → reach t k x ≡ (reach t₀ k x || (leb k rank && ltb x value))
+
+-- What it means of a kind's lists that 1 does not apply.
+pub record Enough (g : Lent) : Type 0 where
+  pub few : g .count ≤ 1024
+  pub seqs : g .count ≤ length (g .seqs)
+  pub counts : g .count ≤ length (g .counts)
+  pub lens : g .count ≤ length (g .lens)
+  pub names : 24 * g .count ≤ length (g .names)
+  pub even : isOdd (g .ranges) ≡ false
+  pub ranges : rangesIn g ≤ length (pairs (g .ranges))
+
+-- Each name's length is at most 24; of an unavailable record it may be 255.
+abbrev pub Short : Lent → Type 0
+Short g = All (λ (n : ℕ). n ≤ 24) (take (g .count) (g .lens))
+
+abbrev pub OwnShort : Lent → Type 0
+OwnShort g = All (λ (n : ℕ). (n ≤ 24) ⊎ (n ≡ 255)) (take (g .count) (g .lens))
+
+-- What a list of regions reads past its end.
+abbrev pub noRegion : Region
+noRegion = record { seq = 0; ranges = []; named = false; name = [] }

@@ -1,0 +1,6 @@
+mod lay;
+mod names;
+mod pair;
+mod ranks;
+mod sweep;
+mod table;
