@@ -1,8 +1,8 @@
 -- What holds of every element of a list or of some: of its parts and at each index; what is written over a list's
 -- front. Over any element type.
 use Prim.Native.Nat.{ℕ, zero, suc, _≤_, _<_}
-use mathlib.Core.Bool.{Bool, true, false, _||_}
-use mathlib.Core.List.{List, [], _∷_, _++_}
+use mathlib.Core.Bool.{Bool, true, false, _||_, or-true, or-assoc}
+use mathlib.Core.List.{List, [], _∷_, _++_, map}
 use mathlib.Core.Logic.{_⊎_, inl, inr, ⊎-elim}
 use mathlib.Core.Path.{_≡_, refl, ap, sym, _∙_}
 use native.Mathlib.Nat.{le-of-suc-le-suc, not-suc-le-zero}
@@ -53,6 +53,15 @@ module _ {A : Type 0} (P : A → Type 0) where
   all-both Q R f [] a b = tt
   all-both Q R f (x ∷ xs) a b = (f x (a .0) (b .0), all-both Q R f xs (a .1) (b .1))
 
+  -- of a list mapped
+  pub all-map : {B : Type 0} (h : B → A) (l : List B) → All (λ (x : B). P (h x)) l → All P (map h l)
+  all-map h [] a = tt
+  all-map h (x ∷ xs) a = (a .0, all-map h xs (a .1))
+
+  pub map-all : {B : Type 0} (h : B → A) (l : List B) → All P (map h l) → All (λ (x : B). P (h x)) l
+  map-all h [] a = tt
+  map-all h (x ∷ xs) a = (a .0, map-all h xs (a .1))
+
   -- some element: of either part, at an index, and not where all are ruled out
   pub any-left : (xs ys : List A) → Any P xs → Any P (xs ++ ys)
   any-left [] ys a = absurd a
@@ -92,6 +101,14 @@ module _ {A : Type 0} (P : A → Type 0) where
   all-none (x ∷ xs) f (inl p) = f .0 p
   all-none (x ∷ xs) f (inr a) = all-none xs (f .1) a
 
+-- tests change places
+pub or-swap : (a b c : Bool) → (a || (b || c)) ≡ (b || (a || c))
+or-swap true b c = sym (or-true b)
+or-swap false b c = refl
+
+pub or-exchange : (a b c d : Bool) → ((a || b) || (c || d)) ≡ ((a || c) || (b || d))
+or-exchange a b c d = simp (or-assoc, or-swap)
+
 module _ {A : Type 0} (f : A → Bool) where
   -- the test of some element says whether there is one
   pub any-true : (l : List A) → any f l ≡ true → Any (λ (x : A). f x ≡ true) l
@@ -116,6 +133,22 @@ module _ {A : Type 0} (f : A → Bool) where
   unfolding any
   of-none [] a = refl
   of-none (x ∷ xs) a = simp (a .0) (of-none xs (a .1))
+
+  pub any-append : (xs ys : List A) → any f (xs ++ ys) ≡ (any f xs || any f ys)
+  unfolding any
+  any-append [] ys = refl
+  any-append (x ∷ xs) ys = ap (λ (b : Bool). f x || b) (any-append xs ys) ∙ sym (or-assoc (f x) (any f xs) (any f ys))
+
+  pub any-map : {B : Type 0} (h : B → A) (l : List B) → any f (map h l) ≡ any (λ (x : B). f (h x)) l
+  unfolding any
+  any-map h [] = refl
+  any-map h (x ∷ xs) = ap (λ (b : Bool). f (h x) || b) (any-map h xs)
+
+  -- a test that agrees on all elements
+  pub any-same : (P : A → Type 0) (g : A → Bool) → ((x : A) → P x → f x ≡ g x) → (l : List A) → All P l → any f l ≡ any g l
+  unfolding any
+  any-same P g e [] a = refl
+  any-same P g e (x ∷ xs) a = rw (e x (a .0), any-same P g e xs (a .1))
 
 module _ {A : Type 0} where
   pub written-length : (xs s : List A) → length xs ≤ length s → length (written xs s) ≡ length s

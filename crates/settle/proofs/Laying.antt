@@ -107,7 +107,7 @@ module _ {rs : List Range} {at count owner first n : ℕ} {s₀ s : List ℕ} {k
 -- ---- record by record
 
 -- what is laid behind what is laid
-laid-more : (ps qs : List Piece) (first f n : ℕ) (s₀ s₁ s₂ : List ℕ) → f ≡ first + length ps → Laid ps first n s₀ s₁ → Laid qs f n s₁ s₂ → Laid (ps ++ qs) first n s₀ s₂
+pub laid-more : (ps qs : List Piece) (first f n : ℕ) (s₀ s₁ s₂ : List ℕ) → f ≡ first + length ps → Laid ps first n s₀ s₁ → Laid qs f n s₁ s₂ → Laid (ps ++ qs) first n s₀ s₂
 laid-more ps qs first f n s₀ s₁ s₂ e g h =
     let l = length-append ps qs in
     record {
@@ -139,7 +139,7 @@ pieces-more i (q ∷ rs) r =
     (pieces-more (suc i) rs r ∙ ap (λ (j : ℕ). piecesFrom (suc i) rs ++ map (piece j (r .seq)) (r .ranges)) (omega arith))
     ∙ sym (append-assoc (map (piece i (q .seq)) (q .ranges)) (piecesFrom (suc i) rs) (map (piece (i + suc (length rs)) (r .seq)) (r .ranges)))
 
-sum-next : (l : List ℕ) (i : ℕ) → i < length l → sum (take (suc i) l) ≡ sum (take i l) + getD l i 0
+pub sum-next : (l : List ℕ) (i : ℕ) → i < length l → sum (take (suc i) l) ≡ sum (take i l) + getD l i 0
 unfolding sum
 sum-next l i h = ap sum (take-suc l i 0 h) ∙ sum-append (take i l) (getD l i 0 ∷ []) ∙ omega arith
 
@@ -149,7 +149,7 @@ sum-front l i j h =
     let f = ap sum (take-take i j l h) in
     omega arith
 
-one-more : (i : ℕ) → i + 1 ≡ suc i
+pub one-more : (i : ℕ) → i + 1 ≡ suc i
 one-more i = omega arith
 
 pub record LayingAll (count : ℕ) (counts : List ℕ) (rs : List Range) (owner first n : ℕ) (s₀ s : List ℕ) (at i : ℕ) : Type 0 where

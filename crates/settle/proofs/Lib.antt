@@ -4,6 +4,12 @@ pub mod Reading
 pub mod Tree
 pub mod Ranking
 pub mod Laying
+pub mod Ordering
+pub mod Refusing
 pub mod Naming
+pub mod Marking
 pub mod Namesakes
+pub mod Others
+pub mod Meeting
+pub mod Striking
 pub mod Sweeping

@@ -1,15 +1,16 @@
 -- What the steps of `settle` do; it promises nothing by these.
-use Prim.Native.Nat.{ℕ, _+_, _*_, _≤_, _<_, max}
+use Prim.Native.Nat.{ℕ, zero, suc, _+_, _*_, _≤_, _<_, max}
 use mathlib.Core.Bool.{Bool, false, _&&_, _||_}
-use mathlib.Core.List.{List, []}
+use mathlib.Core.List.{List, [], _∷_, _++_}
 use mathlib.Core.Logic.{_⊎_}
 use mathlib.Core.Path.{_≡_}
 use lib.Dec.{ltb, leb}
 use lib.ListN.{length, getD, take, drop}
 use Rattle.numbers.specs.Lists.{All, any}
 use Rattle.numbers.specs.Pairs.{isOdd, pairs}
-use Rattle.settle.specs.Regions.{Lent, Region}
-use Rattle.settle.specs.Settle.{rangesIn}
+use Rattle.numbers.specs.Sums.{sum}
+use Rattle.settle.specs.Regions.{Lent, Region, regionsOf}
+use Rattle.settle.specs.Settle.{rangesIn, overlapped, superseded}
 
 -- A tree of greatest numbers: the leaf of rank k stands at 2,048 + k, and the node n, from 1, above the nodes 2n and 2n + 1.
 pub record Tree (t : List ℕ) : Type 0 where
@@ -45,3 +46,19 @@ OwnShort g = All (λ (n : ℕ). (n ≤ 24) ⊎ (n ≡ 255)) (take (g .count) (g 
 -- What a list of regions reads past its end.
 abbrev pub noRegion : Region
 noRegion = record { seq = 0; ranges = []; named = false; name = [] }
+
+-- What the passes over the ranges ask of a kind's lists.
+pub record Sized (n : ℕ) (counts ranges : List ℕ) : Type 0 where
+  pub few : n ≤ 1024
+  pub counts-in : n ≤ length counts
+  pub ranges-in : sum (take n counts) ≤ length (pairs ranges)
+
+-- What they find: which usable regions are overlapped, and which superseded.
+pub record Struck (us un : Lent) (over under : List Bool) : Type 0 where
+  pub overlap : (i : ℕ) → i < us .count → getD over i false ≡ overlapped (regionsOf us) i
+  pub supersede : (i : ℕ) → i < us .count → getD under i false ≡ superseded (regionsOf us) (regionsOf un) i
+
+-- f of the first n numbers.
+unfoldable pub firsts : (ℕ → ℕ) → ℕ → List ℕ
+firsts f zero = []
+firsts f (suc n) = firsts f n ++ (f n ∷ [])

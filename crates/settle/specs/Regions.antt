@@ -17,6 +17,9 @@ pub record Lent : Type 0 where
   pub lens : List ℕ
   pub names : List ℕ
 
+abbrev pub lent : ℕ → (seqs counts ranges lens names : List ℕ) → Lent
+lent n seqs counts ranges lens names = record { count = n; seqs = seqs; counts = counts; ranges = ranges; lens = lens; names = names }
+
 -- A record: "A region's sequence number is its entry's `footprint_seq`"; an unavailable one may have no name.
 pub record Region : Type 0 where
   pub seq : ℕ

@@ -71,10 +71,14 @@ marksOf us un = marksFrom us un 0 us
 abbrev pub rangesIn : Lent → ℕ
 rangesIn g = sum (take (g .count) (g .counts))
 
+-- "names of 0 to 24 bytes"; where a record may have no name, the length 255 says so.
+unfoldable pub tooLong : Bool → ℕ → Bool
+tooLong unnamed n = ltb 24 n && not (unnamed && eqb n 255)
+
 -- 1. "A lent slice is too short, a list of pairs is odd .. or a count is over its limit": of the lists of one kind.
 -- "At most 1,024 usable and 1,024 unavailable records"
-unfoldable pub lentFails : Lent → Bool
-lentFails g =
+unfoldable pub lentFails : Bool → Lent → Bool
+lentFails unnamed g =
     ltb 1024 (g .count)
     || ltb (length (g .seqs)) (g .count)
     || ltb (length (g .counts)) (g .count)
@@ -82,21 +86,13 @@ lentFails g =
     || ltb (length (g .names)) (24 * g .count)
     || isOdd (g .ranges)
     || ltb (length (pairs (g .ranges))) (rangesIn g)
-
--- "names of 0 to 24 bytes"; of an unavailable record 255 says that it has none.
-abbrev pub tooLong : ℕ → Bool
-tooLong n = ltb 24 n
-
-abbrev pub ownTooLong : ℕ → Bool
-ownTooLong n = ltb 24 n && not (eqb n 255)
+    || any (tooLong unnamed) (take (g .count) (g .lens))
 
 -- The other counts and slices: "65,536 ranges in all", "usable records for marks", "16 numbers a range for scratch of `settle`".
 unfoldable pub settleFails : Lent → Lent → ℕ → ℕ → Bool
 settleFails us un marks scratch =
-    lentFails us
-    || lentFails un
-    || any tooLong (take (us .count) (us .lens))
-    || any ownTooLong (take (un .count) (un .lens))
+    lentFails false us
+    || lentFails true un
     || ltb 65536 (rangesIn us + rangesIn un)
     || ltb marks (us .count)
     || ltb scratch (16 * (rangesIn us + rangesIn un))

@@ -1,11 +1,11 @@
 -- The ranges in the order of their starts, and which of them one arrives upon.
-use Prim.Native.Nat.{ℕ, _+_, _-_, _<_}
-use mathlib.Core.Bool.{Bool, false, cond, _&&_, _||_}
+use Prim.Native.Nat.{ℕ, _+_, _-_, _≤_, _<_}
+use mathlib.Core.Bool.{Bool, true, false, cond, _&&_, _||_}
 use mathlib.Core.List.{List, [], _∷_, map, reverse}
 use mathlib.Core.Path.{_≡_}
 use lib.Dec.{ltb, leb, eqb}
 use lib.ListN.{length, getD}
-use Rattle.numbers.specs.Lists.{any}
+use Rattle.numbers.specs.Lists.{All, any}
 use Rattle.numbers.specs.Pairs.{pairs}
 use Rattle.numbers.specs.Range.{Range, blank}
 use Rattle.numbers.specs.Sums.{top}
@@ -53,3 +53,39 @@ struck counts i y x = eqb (y .owner) i && counts y x && within y x
 unfoldable pub behind : {A : Type 0} → (A → A → Bool) → List A → Bool
 behind f [] = false
 behind {A} f (x ∷ xs) = any (λ (y : A). f y x) xs || behind f xs
+
+-- x, not empty, may strike what arrives before v: it is of a kind, of rank k or above, and ends behind v.
+abbrev pub strikes : Bool → ℕ → ℕ → ℕ → Item → Bool
+strikes kind rank k v x = ltb (x .start) (x .end) && kind && leb k rank && ltb v (x .end)
+
+-- The tables and marks after x arrived.
+pub record Arrived (x : Item) (u rank : ℕ) (held₀ held own₀ own : List ℕ) (over₀ over under₀ under : List Bool) : Type 0 where
+  pub held-tree : Tree held
+  pub held-reach : (k v : ℕ) → reach held k v ≡ (reach held₀ k v || strikes (ltb (x .owner) u) rank k v x)
+  pub own-tree : Tree own
+  pub own-reach : (k v : ℕ) → reach own k v ≡ (reach own₀ k v || strikes (leb u (x .owner)) rank k v x)
+  pub over-size : length over ≡ length over₀
+  pub over-marks : (i : ℕ) → i < u → getD over i false ≡ (getD over₀ i false || (eqb (x .owner) i && ltb (x .start) (x .end) && reach held₀ rank (x .start)))
+  pub under-size : length under ≡ length under₀
+  pub under-marks : (i : ℕ) → i < u → getD under i false ≡ (getD under₀ i false || (eqb (x .owner) i && ltb (x .start) (x .end) && reach own₀ (rank + 1) (x .start)))
+
+-- What a pass asks: places and ranks are inside, and every usable region has its mark.
+pub record Ready (order facts : List Range) (u : ℕ) (ranks : List ℕ) (over under : ℕ) : Type 0 where
+  pub places : All (λ (p : Range). p .len < length facts) order
+  pub owners : All (λ (x : Item). (x .owner < length ranks) × (getD ranks (x .owner) 0 < 2048)) (itemsOf order facts)
+  pub over-room : u ≤ over
+  pub under-room : u ≤ under
+
+-- The marks after a pass over the ranges l.
+pub record Swept (l : List Item) (u : ℕ) (ranks : List ℕ) (over₀ over under₀ under : List Bool) : Type 0 where
+  pub over-size : length over ≡ length over₀
+  pub over-marks : (i : ℕ) → i < u → getD over i false ≡ (getD over₀ i false || behind (struck (usableOver ranks u) i) l)
+  pub under-size : length under ≡ length under₀
+  pub under-marks : (i : ℕ) → i < u → getD under i false ≡ (getD under₀ i false || behind (struck (ownOver ranks u) i) l)
+
+-- The marks after a pass forward and one back.
+pub record SweptBoth (l : List Item) (u : ℕ) (ranks : List ℕ) (over₀ over under₀ under : List Bool) : Type 0 where
+  pub over-size : length over ≡ length over₀
+  pub over-marks : (i : ℕ) → i < u → getD over i false ≡ (getD over₀ i false || (behind (struck (usableOver ranks u) i) (walk false l) || behind (struck (usableOver ranks u) i) (walk true l)))
+  pub under-size : length under ≡ length under₀
+  pub under-marks : (i : ℕ) → i < u → getD under i false ≡ (getD under₀ i false || (behind (struck (ownOver ranks u) i) (walk false l) || behind (struck (ownOver ranks u) i) (walk true l)))

@@ -1,0 +1,36 @@
+use borrow.Author.Needs.{needs}
+use Rattle.settle.proofs.sweep.mark_from.Statement.{statement}
+use Rattle.settle.proofs.sweep.mark_from.Tie as tie
+use Rattle.settle.proofs.sweep.mark_from.Reads as reads
+use Rattle.settle.proofs.sweep.mark_from.Lts as lts
+use Rattle.settle.proofs.table.from.Reads as from-reads
+use Rattle.settle.proofs.Sweeping.{mark-new, mark-kept}
+
+-- src/sweep.rt:60:9
+slice-read-if1 : tie.Need-slice-read-if1
+slice-read-if1 c = search needs
+
+-- src/sweep.rt:61:20
+from-requires : tie.Need-from-requires
+from-requires c κs = search needs
+
+-- src/sweep.rt:61:9
+slice-write-marks : tie.Need-slice-write-marks
+slice-write-marks c = search needs
+
+-- src/sweep.rt:56:1
+same-length : tie.Need-same-length
+same-length c = search needs
+
+-- src/sweep.rt:56:1
+returns : tie.Need-returns
+returns c = mark-new (c .before .before .before .before .before .args .marks .now) (c .before .before .before .before .before .args .i) _ _ (c .before .if1 .taken) (c .from .ensures)
+
+-- src/sweep.rt:56:1
+returns-2 : tie.Need-returns-2
+returns-2 c = mark-kept (c .before .before .before .before .args .marks .now) (c .before .before .before .before .args .i) _ (c .if1 .left)
+
+pub mark-from-spec : {M : Type 1} → statement M
+mark-from-spec =
+    tie.close
+    (tie.spec slice-read-if1 from-requires slice-write-marks same-length returns returns-2)
