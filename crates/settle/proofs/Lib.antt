@@ -12,4 +12,5 @@ pub mod Namesakes
 pub mod Others
 pub mod Meeting
 pub mod Striking
+pub mod Settling
 pub mod Sweeping

@@ -1,0 +1,135 @@
+-- The call: what it means that 1 does not apply, and that the marks written are those that are promised.
+use Prim.Native.Nat.{ℕ, zero, suc, _+_, _-_, _*_, _≤_, _<_}
+use mathlib.Core.Bool.{Bool, true, false, cond}
+use mathlib.Core.List.{List, [], _∷_, _++_}
+use mathlib.Core.Path.{_≡_, refl, ap, sym, _∙_}
+use native.Mathlib.Nat.{le-of-suc-le-suc, not-suc-le-zero}
+use native.Mathlib.Omega.{arith}
+use lib.ListN.{length, getD, take, replicate, length-append, length-replicate, List·getD-append}
+use lib.Seq.{ext-getD, getD-at, length-take-le}
+use borrow.Author.Tests.{ltb-false}
+use Rattle.numbers.specs.Lists.{written}
+use Rattle.numbers.specs.Refusals.{refuse}
+use Rattle.numbers.specs.Sums.{stop, sum}
+use Rattle.settle.specs.Inner.{Enough, Short, OwnShort, Sized, Struck, firsts, noRegion}
+use Rattle.settle.specs.Naming.{Tagged, Listed, outdone}
+use Rattle.settle.specs.Regions.{Lent, Region, regionsOf}
+use Rattle.settle.specs.Settle.{overlapped, superseded, renamed, markOf, marksFrom, marksOf, rangesIn, settleFails, Settled}
+use Rattle.numbers.proofs.Cases.{by-lt, clash, or-false}
+use Rattle.settle.proofs.Marking.{firsts-length}
+use Rattle.settle.proofs.Namesakes.{renamed-is, listed, short-at}
+use Rattle.settle.proofs.Reading.{length-of}
+use Rattle.settle.proofs.Refusing.{passed, short, own-short}
+
+pub record Accepted (us un : Lent) (marks scratch : ℕ) : Type 0 where
+  pub ours : Enough us
+  pub theirs : Enough un
+  pub names : Short us
+  pub own-names : OwnShort un
+  pub few : rangesIn us + rangesIn un ≤ 65536
+  pub room : us .count ≤ marks
+  pub space : 16 * (rangesIn us + rangesIn un) ≤ scratch
+
+pub accepted : (us un : Lent) (marks scratch : ℕ) → settleFails us un marks scratch ≡ false → Accepted us un marks scratch
+unfolding settleFails
+accepted us un marks scratch e =
+    let a = or-false _ _ e in
+    let b = or-false _ _ (a .0) in
+    let c = or-false _ _ (b .0) in
+    let d = or-false _ _ (c .0) in
+    record {
+      ours = passed false us (d .0) .0;
+      theirs = passed true un (d .1) .0;
+      names = short us (d .0);
+      own-names = own-short un (d .1);
+      few = ltb-false 65536 (rangesIn us + rangesIn un) (c .1);
+      room = ltb-false marks (us .count) (b .1);
+      space = ltb-false scratch (16 * (rangesIn us + rangesIn un)) (a .1);
+    }
+
+pub sized : (g : Lent) → Enough g → Sized (g .count) (g .counts) (g .ranges)
+sized g e = record { few = e .few; counts-in = e .counts; ranges-in = e .ranges }
+
+-- the arrays counted by records are long enough, before and after a call
+pub array-room : {A : Type 0} (z : A) (g : Lent) → Enough g → g .count ≤ length (replicate 1024 z)
+array-room z g e = let r = length-replicate 1024 z in omega (arith, e .few)
+
+pub array-more : {A : Type 0} (z : A) (g : Lent) → Enough g → (l : List A) → length l ≡ length (replicate 1024 z) → g .count ≤ length l
+array-more z g e l q = let r = length-replicate 1024 z in omega (arith, e .few)
+
+-- the part of scratch that is lent on
+pub part-size : (s : List ℕ) (n : ℕ) → 4 * n ≤ length s → length (take (4 * n - 0) s) ≡ 4 * n
+part-size s n h = length-take-le (4 * n - 0) s (omega arith) ∙ omega arith
+
+-- ---- the counts, as the code takes them
+
+module _ {us un : Lent} {marks scratch : ℕ} (g : Accepted us un marks scratch) (a b : ℕ) (d : a ≡ stop (rangesIn us)) (e : b ≡ stop (rangesIn un)) where
+  pub count-first : a ≡ rangesIn us
+  count-first = omega (arith, g .few)
+
+  pub count-all : a + b ≡ a + rangesIn un
+  count-all = omega (arith, g .few)
+
+  pub count-few : a + b ≤ 65536
+  count-few = omega (arith, g .few)
+
+  pub count-space : 4 * (a + b) ≤ scratch
+  count-space = omega (arith, g .few, g .space)
+
+-- ---- the marks
+
+firsts-at : (f : ℕ → ℕ) (n i : ℕ) → i < n → getD (firsts f n) i 0 ≡ f i
+unfolding firsts
+firsts-at f zero i h = absurd (not-suc-le-zero h)
+firsts-at f (suc n) i h =
+    let l = firsts-length f n in
+    by-lt i n (λ k. List·getD-append (firsts f n) (f n ∷ []) 0 i (omega arith) ∙ firsts-at f n i k)
+    (λ k. let e : n ≡ i = omega arith in getD-at (firsts f n) (f n) [] 0 i (l ∙ e) ∙ ap f e)
+
+marks-length : (us un : List Region) (j : ℕ) (rs : List Region) → length (marksFrom us un j rs) ≡ length rs
+unfolding marksFrom
+marks-length us un j [] = refl
+marks-length us un j (r ∷ rs) = ap suc (marks-length us un (suc j) rs)
+
+marks-at : (us un : List Region) (j : ℕ) (rs : List Region) (i : ℕ) → i < length rs
+    → getD (marksFrom us un j rs) i 0 ≡ markOf (overlapped us (j + i)) (renamed us un (getD rs i noRegion)) (superseded us un (j + i))
+unfolding marksFrom
+marks-at us un j [] i h = absurd (not-suc-le-zero h)
+marks-at us un j (r ∷ rs) zero h =
+    let e : j ≡ j + 0 = omega arith in
+    ap (λ (k : ℕ). markOf (overlapped us k) (renamed us un r) (superseded us un k)) e
+marks-at us un j (r ∷ rs) (suc i) h =
+    let e : suc j + i ≡ j + suc i = omega arith in
+    marks-at us un (suc j) rs i (le-of-suc-le-suc h)
+    ∙ ap (λ (k : ℕ). markOf (overlapped us k) (renamed us un (getD rs i noRegion)) (superseded us un k)) e
+
+module _ (us un : Lent) {marks scratch : ℕ} (g : Accepted us un marks scratch) (over under : List Bool) (s : Struck us un over under) where
+  abbrev pub found : ℕ → ℕ
+  found i = markOf (getD over i false) (outdone i (us .count) (us .seqs) (us .lens) (us .names) (un .count) (un .seqs) (un .lens) (un .names)) (getD under i false)
+
+  pub marks-found : firsts found (us .count) ≡ marksOf (regionsOf us) (regionsOf un)
+  marks-found =
+      let l = length-of us in
+      let f = firsts-length found (us .count) in
+      let m = marks-length (regionsOf us) (regionsOf un) 0 (regionsOf us) in
+      ext-getD 0 (firsts found (us .count)) (marksOf (regionsOf us) (regionsOf un)) (omega arith) (λ i h. at i (omega arith))
+    where
+      at : (i : ℕ) → i < us .count → getD (firsts found (us .count)) i 0 ≡ getD (marksOf (regionsOf us) (regionsOf un)) i 0
+      at i h =
+          let l = length-of us in
+          let z : 0 + i ≡ i = omega arith in
+          firsts-at found (us .count) i h
+          ∙ rw (s .overlap i h, s .supersede i h, renamed-is us un (g .ours) (g .theirs) (g .names) (g .own-names) i h) refl
+          ∙ sym (marks-at (regionsOf us) (regionsOf un) 0 (regionsOf us) i (omega arith)
+          ∙ ap (λ (k : ℕ). markOf (overlapped (regionsOf us) k) (renamed (regionsOf us) (regionsOf un) (getD (regionsOf us) i noRegion)) (superseded (regionsOf us) (regionsOf un) k)) z)
+
+-- ---- the promise
+
+module _ (us un : Lent) (m₀ s₀ : List ℕ) where
+  pub settled-refused : settleFails us un (length m₀) (length s₀) ≡ true → Settled us un m₀ m₀ s₀ s₀ 1
+  unfolding refuse
+  settled-refused e = record { number = simp e; slots = simp e; kept = λ f. refl }
+
+  pub settled-marked : (m s : List ℕ) → settleFails us un (length m₀) (length s₀) ≡ false → m ≡ written (marksOf (regionsOf us) (regionsOf un)) m₀ → Settled us un m₀ m s₀ s 0
+  unfolding refuse
+  settled-marked m s e w = record { number = simp e; slots = simp e w; kept = λ f. clash f e }
