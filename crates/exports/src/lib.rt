@@ -1,6 +1,7 @@
 // Flat functions for compare/, which links them as a static library. Nothing is decided here: each
 // calls a leaf, and its contract is the leaf's.
 mod map;
+mod settlement;
 
 use align::Aligned;
 use footprint::Entry;
