@@ -133,9 +133,7 @@ fn check(case: &Case, tally: &mut Tally) -> Result<(), String> {
 pub fn compare(random: &mut Random) -> Result<usize, String> {
     let mut tally = Tally::default();
     let mut try_case = |case: &Case| check(case, &mut tally);
-    limits::compare(random, &mut try_case)?;
     every::compare(&mut try_case)?;
-    shaped::compare(random, &mut try_case)?;
     for i in 0..400_000 {
         let most = if i % 16 == 0 { 40 } else { 10 };
         let [usable, unavailable, n] = [0, 1, 2].map(|_| random.below(most) as usize);
@@ -145,6 +143,8 @@ pub fn compare(random: &mut Random) -> Result<usize, String> {
         }
         try_case(&case)?;
     }
+    limits::compare(random, &mut try_case)?;
+    shaped::compare(random, &mut try_case)?;
     for i in 0..3000 {
         let [usable, unavailable] = [0, 1].map(|_| random.below(70) as usize);
         let mut case = draw::large(usable, unavailable, random.below(300) as usize, random);

@@ -1,8 +1,7 @@
 //! Sets of records told in numbers, and the lists that they come to.
 
 use crate::random::Random;
-use crate::shrink::{at_distance, distance, shrink};
-use std::time::{Duration, Instant};
+use crate::shrink::{at_distance, deadline, distance, shrink_until};
 
 /// What a name has in its list, whatever its length.
 pub const NAME: usize = 24;
@@ -141,24 +140,20 @@ impl Case {
         }
     }
 
-    /// The smallest case on which the two sides still differ, or as small a one as is found in twenty
-    /// seconds.
+    /// The smallest case on which the two sides still differ, or as small a one as is found in time.
     pub fn smallest(&self, differs: fn(&Self) -> bool) -> Self {
-        let begun = Instant::now();
+        let end = deadline();
         let mut small = self.clone();
         loop {
             let before = small.clone();
             for (k, unit) in [(0, WIDTH), (1, 0)] {
                 let still = |part: &[u64]| {
-                    if begun.elapsed() > Duration::from_secs(20) {
-                        return false;
-                    }
                     let mut changed = small.clone();
                     *changed.part(k) = part.to_vec();
                     differs(&changed)
                 };
                 let part = small.clone().part(k).clone();
-                *small.part(k) = shrink(part, unit, still);
+                *small.part(k) = shrink_until(end, part, unit, still);
             }
             if small == before {
                 return small;

@@ -48,11 +48,11 @@ fn lists<T: Clone>(n: usize, of: &[T]) -> Vec<Vec<T>> {
 
 /// Checks every set of these records with every way to give them the ranges.
 fn sets(records: &[Vec<Record>], ranges: &[Vec<(u64, u64)>], check: Check) -> Result<(), String> {
+    let mut made = 0;
     for records in records {
-        let n = records.len();
+        let all: Vec<usize> = (0..records.len()).collect();
         for ranges in ranges {
-            let owners: Vec<usize> = (0..n).collect();
-            for owners in lists(ranges.len(), &owners) {
+            for owners in lists(ranges.len(), &all) {
                 if !owners.is_sorted() {
                     continue;
                 }
@@ -60,13 +60,15 @@ fn sets(records: &[Vec<Record>], ranges: &[Vec<(u64, u64)>], check: Check) -> Re
                 for (&owner, &range) in owners.iter().zip(ranges) {
                     set[owner].ranges.push(range);
                 }
-                check(&Case::new(&set, owners.len() as u64))?;
+                made += 1;
+                check(&Case::new(&set, made))?;
             }
         }
     }
     Ok(())
 }
 
+/// Each case has other numbers in scratch and in the marks before.
 pub fn compare(check: Check) -> Result<(), String> {
     // up to four records of two names and three numbers, without ranges
     let few = every_record(&[0, 1, MAX], b"ab");

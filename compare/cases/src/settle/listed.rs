@@ -67,7 +67,7 @@ pub fn compare() -> Result<usize, String> {
         (
             vec![record(true, MOST_RANGES), record(false, 1)],
             None,
-            vec![0],
+            vec![RENAMED],
         ),
         (vec![named(true, 25)], None, vec![0]),
         (vec![named(true, NO_NAME)], None, vec![0]),

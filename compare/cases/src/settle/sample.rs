@@ -1,7 +1,7 @@
 //! A stored sample of the Rust's answers.
 
 use super::case::{
-    COUNT, COUNTS, Case, Kind, LENS, Lists, MARKS, NAMES, RANGES, Record, SCRATCH, SEQS,
+    COUNT, COUNTS, Case, Kind, LENS, Lists, MARKS, NAME, NAMES, RANGES, Record, SCRATCH, SEQS,
     UNAVAILABLE_SIZES,
 };
 use super::draw;
@@ -52,7 +52,7 @@ fn line(lists: &Lists, due: &Answer) -> String {
 
 /// A record with a name of one byte, and zeros behind it.
 fn record(usable: bool, seq: u64, name: u8, ranges: &[(u64, u64)]) -> Record {
-    let mut bytes = [0; 24];
+    let mut bytes = [0; NAME];
     bytes[0] = name;
     Record {
         usable,

@@ -50,6 +50,49 @@ fn names() -> Vec<Vec<Vec<u8>>> {
     ]
 }
 
+/// n ranges of which only those at places p and q meet, in one byte.
+fn one_meeting(n: usize, p: usize, q: usize, random: &mut Random) -> Vec<(u64, u64)> {
+    let mut ranges = shape("touching", n, random);
+    shuffle(&mut ranges, random);
+    let (offset, len) = ranges[q];
+    ranges[p] = (offset + len - 1, 1);
+    ranges
+}
+
+/// One meeting in sets of each size up to the most, its ranges first, last or elsewhere.
+fn meetings(random: &mut Random, check: Check) -> Result<(), String> {
+    let sizes = [
+        255,
+        256,
+        257,
+        1023,
+        1024,
+        1025,
+        4096,
+        32_768,
+        65_535,
+        MOST_RANGES,
+    ];
+    for n in (2..=70).chain(sizes) {
+        let any = random.below(n as u64) as usize;
+        let places = [0, n - 1, n / 2, any];
+        for (p, q) in places.iter().flat_map(|&p| places.map(|q| (p, q))) {
+            let most = n.min(MOST_RECORDS);
+            for (usable, unavailable) in [(most, 0), (1, 0), (1, 1), (most, most), (1, most)] {
+                if p == q || (n > 2000 && random.below(2) == 0) {
+                    continue;
+                }
+                let ranges = one_meeting(n, p, q, random);
+                let numbers = numbers(usable + unavailable, random);
+                let seqs = &numbers[random.below(numbers.len() as u64) as usize];
+                let set = spread(usable, unavailable, &ranges, seqs, &[], random);
+                check(&Case::new(&set, random.next()))?;
+            }
+        }
+    }
+    Ok(())
+}
+
 /// Every shape with every sort of numbers and of names, in small sets; then large ones, each shape
 /// with a few sorts of both.
 pub fn compare(random: &mut Random, check: Check) -> Result<(), String> {
@@ -97,5 +140,5 @@ pub fn compare(random: &mut Random, check: Check) -> Result<(), String> {
             check(&Case::new(&set, random.next()))?;
         }
     }
-    Ok(())
+    meetings(random, check)
 }
