@@ -114,16 +114,22 @@ fn check(case: &Case, tally: &mut Tally) -> Result<(), String> {
     }
     let lists = case.smallest(differs).lists();
     let due = due(&lists);
+    let call = format!(
+        "settle({:?}, {:?}, marks {:?}, {} numbers of scratch)",
+        lists.usable,
+        lists.unavailable,
+        lists.marks,
+        lists.scratch.len()
+    );
+    let call = brief(call);
     if let Some(marks) = worded(&lists, &due).filter(|marks| *marks != due.marks) {
         return Err(format!(
-            "settle({}): document 01 says {marks:?}, the Rust {:?}",
-            brief(format!("{lists:?}")),
+            "{call}: document 01 says {marks:?}, the Rust {:?}",
             due.marks
         ));
     }
     Err(format!(
-        "settle({}): due is {}, ours gives {}",
-        brief(format!("{lists:?}")),
+        "{call}: due is {}, ours gives {}",
         brief(format!("{due:?}")),
         brief(format!("{:?}", by_ours(&lists)))
     ))

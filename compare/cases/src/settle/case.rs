@@ -42,7 +42,7 @@ pub const MARKS: usize = 12;
 pub const SCRATCH: usize = 13;
 const FILLING: usize = 14;
 
-#[derive(Clone, PartialEq)]
+#[derive(Clone)]
 pub struct Case {
     records: Vec<u64>,
     /// How far the count of records and the lengths of the lists are from those that are needed, for
@@ -52,7 +52,7 @@ pub struct Case {
 }
 
 /// The lists of one kind of records.
-#[derive(Clone, Debug, Default, PartialEq)]
+#[derive(Debug, Default)]
 pub struct Kind {
     pub count: usize,
     pub seqs: Vec<u64>,
@@ -63,7 +63,6 @@ pub struct Kind {
 }
 
 /// What a call is given.
-#[derive(Clone, Debug, PartialEq)]
 pub struct Lists {
     pub usable: Kind,
     pub unavailable: Kind,
@@ -132,34 +131,51 @@ impl Case {
         }
     }
 
-    fn part(&mut self, k: usize) -> &mut Vec<u64> {
-        if k == 0 {
-            &mut self.records
-        } else {
-            &mut self.sizes
-        }
-    }
-
     /// The smallest case on which the two sides still differ, or as small a one as is found in time.
     pub fn smallest(&self, differs: fn(&Self) -> bool) -> Self {
         let end = deadline();
-        let mut small = self.clone();
-        loop {
-            let before = small.clone();
-            for (k, unit) in [(0, WIDTH), (1, 0)] {
-                let still = |part: &[u64]| {
-                    let mut changed = small.clone();
-                    *changed.part(k) = part.to_vec();
-                    differs(&changed)
-                };
-                let part = small.clone().part(k).clone();
-                *small.part(k) = shrink_until(end, part, unit, still);
-            }
-            if small == before {
-                return small;
-            }
+        let Self {
+            mut records,
+            mut sizes,
+        } = self.clone();
+        let still = |records: &[u64], sizes: &[u64]| {
+            differs(&Self {
+                records: records.to_vec(),
+                sizes: sizes.to_vec(),
+            })
+        };
+        for _ in 0..3 {
+            records = shrink_until(end, records, WIDTH, |r| still(r, &sizes));
+            let told = apart(&records);
+            let told = shrink_until(end, told, 0, |t| still(&together(t), &sizes));
+            records = together(&told);
+            sizes = shrink_until(end, sizes, 0, |s| still(&records, s));
         }
+        Self { records, sizes }
     }
+}
+
+/// The same records, each range's offset told by its distance from the end before it, which it then
+/// follows.
+fn apart(records: &[u64]) -> Vec<u64> {
+    let mut told = records.to_vec();
+    let mut end = 0u64;
+    for range in told.chunks_exact_mut(WIDTH).filter(|t| t[0] == RANGE) {
+        let offset = range[1];
+        range[1] = distance(offset, end);
+        end = offset.wrapping_add(range[2]);
+    }
+    told
+}
+
+fn together(told: &[u64]) -> Vec<u64> {
+    let mut records = told.to_vec();
+    let mut end = 0u64;
+    for range in records.chunks_exact_mut(WIDTH).filter(|t| t[0] == RANGE) {
+        range[1] = at_distance(range[1], end);
+        end = range[1].wrapping_add(range[2]);
+    }
+    records
 }
 
 impl Kind {
