@@ -1,36 +1,61 @@
 //! A list lent from between guard slots, which must stay as they were.
 
-const GUARD: u64 = 0xfeed_face_cafe_beef;
+/// A slot, and what a guard slot holds unless another number is given.
+pub trait Slot: Copy + PartialEq {
+    const GUARD: Self;
+}
+
+impl Slot for u64 {
+    const GUARD: Self = 0xfeed_face_cafe_beef;
+}
+
+impl Slot for u8 {
+    const GUARD: Self = 0xa5;
+}
 
 #[derive(Clone)]
-pub struct Lent(Vec<u64>);
+pub struct Lent<T = u64> {
+    slots: Vec<T>,
+    guard: T,
+}
 
-impl Lent {
-    pub fn new(list: &[u64]) -> Self {
-        let guard = [GUARD; 2];
-        Self([&guard, list, &guard].concat())
+impl<T: Slot> Lent<T> {
+    pub fn new(list: &[T]) -> Self {
+        Self::between(T::GUARD, list)
     }
 
-    pub fn list(&mut self) -> &mut [u64] {
-        let end = self.0.len() - 2;
-        &mut self.0[2..end]
+    /// Lent from between guard slots that hold this.
+    pub fn between(guard: T, list: &[T]) -> Self {
+        let guards = [guard; 2];
+        let slots = [&guards, list, &guards].concat();
+        Self { slots, guard }
+    }
+
+    fn end(&self) -> usize {
+        self.slots.len() - 2
+    }
+
+    fn guarded(&self) -> bool {
+        let mut guards = self.slots[..2].iter().chain(&self.slots[self.end()..]);
+        guards.all(|x| *x == self.guard)
+    }
+
+    pub fn list(&mut self) -> &mut [T] {
+        let end = self.end();
+        &mut self.slots[2..end]
     }
 
     /// Whether the list is this one, and the guard slots around it are as they were.
-    pub fn holds(&self, list: &[u64]) -> bool {
-        let end = self.0.len() - 2;
-        let mut guards = self.0[..2].iter().chain(&self.0[end..]);
-        guards.all(|&x| x == GUARD) && &self.0[2..end] == list
+    pub fn holds(&self, list: &[T]) -> bool {
+        self.guarded() && &self.slots[2..self.end()] == list
     }
 
     /// The list afterwards, with the guard slots around it if one of them has changed.
-    pub fn back(mut self) -> Vec<u64> {
-        let end = self.0.len() - 2;
-        let mut guards = self.0[..2].iter().chain(&self.0[end..]);
-        if guards.all(|&x| x == GUARD) {
-            self.0.truncate(end);
-            self.0.drain(..2);
+    pub fn back(mut self) -> Vec<T> {
+        if self.guarded() {
+            self.slots.truncate(self.end());
+            self.slots.drain(..2);
         }
-        self.0
+        self.slots
     }
 }

@@ -6,6 +6,7 @@ pub mod footprint;
 pub mod lent;
 pub mod random;
 pub mod regionmap;
+pub mod settle;
 pub mod shrink;
 pub mod sort;
 pub mod stored;

@@ -1,16 +1,33 @@
 //! Makes an input on which the two sides differ as small as it can.
 
 use std::iter;
+use std::time::{Duration, Instant};
+
+/// When to stop, if it is begun now: an input of many numbers that all matter takes far longer.
+pub fn deadline() -> Instant {
+    Instant::now() + Duration::from_secs(20)
+}
 
 /// Removes runs of `unit` numbers and lowers single numbers for as long as `differs` still says so.
-pub fn shrink(mut input: Vec<u64>, unit: usize, differs: impl Fn(&[u64]) -> bool) -> Vec<u64> {
+pub fn shrink(input: Vec<u64>, unit: usize, differs: impl Fn(&[u64]) -> bool) -> Vec<u64> {
+    shrink_until(deadline(), input, unit, differs)
+}
+
+/// The same, but no longer than to this time.
+pub fn shrink_until(
+    end: Instant,
+    mut input: Vec<u64>,
+    unit: usize,
+    differs: impl Fn(&[u64]) -> bool,
+) -> Vec<u64> {
+    let late = || Instant::now() > end;
     loop {
         let before = input.clone();
         if unit > 0 {
             let mut width = (input.len() / unit / 2).max(1);
             loop {
                 let mut at = 0;
-                while (at + width) * unit <= input.len() {
+                while (at + width) * unit <= input.len() && !late() {
                     let mut shorter = input.clone();
                     shorter.drain(at * unit..(at + width) * unit);
                     if differs(&shorter) {
@@ -28,7 +45,7 @@ pub fn shrink(mut input: Vec<u64>, unit: usize, differs: impl Fn(&[u64]) -> bool
         for i in 0..input.len() {
             // to 0, or down by powers of two, which keep an alignment
             for step in iter::once(input[i]).chain((0..64).rev().map(|k| 1 << k)) {
-                while 0 < step && step <= input[i] {
+                while 0 < step && step <= input[i] && !late() {
                     let mut smaller = input.clone();
                     smaller[i] -= step;
                     if !differs(&smaller) {
@@ -38,7 +55,7 @@ pub fn shrink(mut input: Vec<u64>, unit: usize, differs: impl Fn(&[u64]) -> bool
                 }
             }
         }
-        if input == before {
+        if input == before || late() {
             return input;
         }
     }

@@ -36,6 +36,13 @@ mod regionmap;
 
 pub mod map;
 
+#[rustfmt::skip]
+#[allow(dead_code)]
+#[path = "../../../../shared/docs/src/crates/store-io-engine/src/footprint.rs"]
+mod engine_footprint;
+
+pub mod settle;
+
 /// How the project sorts pairs: `sort_unstable` of the standard library.
 pub fn sort_pairs(pairs: &mut [(u64, u64)]) {
     pairs.sort_unstable();

@@ -1,6 +1,7 @@
 //! The Rattle functions of crates/exports. No call asks anything of its caller, so each has a safe form.
 
 pub mod map;
+pub mod settle;
 
 #[repr(C)]
 struct FlatOption {

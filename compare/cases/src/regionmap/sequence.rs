@@ -2,8 +2,7 @@
 
 use super::sides::{Call, Difference, MOST, Sides};
 use crate::random::Random;
-use crate::shrink::{at_distance, distance, shrink};
-use std::time::{Duration, Instant};
+use crate::shrink::{at_distance, deadline, distance, shrink_until};
 
 const MAX: u64 = u64::MAX;
 
@@ -135,22 +134,20 @@ impl Sequence {
     }
 
     /// The smallest sequence on which the two sides still differ, or as small a one as is found in
-    /// twenty seconds: thousands of calls that all matter take longer.
+    /// time.
     pub fn smallest(&self) -> Self {
-        let begun = Instant::now();
+        let end = deadline();
         let mut small = self.clone();
         loop {
             let before = small.clone();
             for (k, unit) in [(0, WIDTH), (1, 2), (2, 0)] {
                 let differs = |part: &[u64]| {
-                    if begun.elapsed() > Duration::from_secs(20) {
-                        return false;
-                    }
                     let mut changed = small.clone();
                     *changed.part(k) = part.to_vec();
                     changed.run(|_, _, _| ()).is_err()
                 };
-                *small.part(k) = shrink(small.clone().part(k).clone(), unit, differs);
+                let part = small.clone().part(k).clone();
+                *small.part(k) = shrink_until(end, part, unit, differs);
             }
             if small == before {
                 return small;
