@@ -1,9 +1,8 @@
 -- The footprint in scratch: the loop that copies the extents, and the one that looks for neighbours that meet.
-use Prim.Native.Nat.{ℕ, zero, suc, _+_, _-_, _*_, _/_, _≤_, _<_}
+use Prim.Native.Nat.{ℕ, suc, _+_, _-_, _*_, _/_, _≤_, _<_}
 use mathlib.Core.Bool.{false, _||_}
 use mathlib.Core.List.{List, [], _∷_, _++_, append-nil}
 use mathlib.Core.Path.{_≡_, refl, ap, sym, _∙_}
-use native.Mathlib.Nat.{le-of-suc-le-suc}
 use native.Mathlib.Omega.{arith}
 use lib.Dec.{ltb}
 use lib.ListN.{length, getD, take, drop, set, length-append, length-take, length-set, length-drop, drop-of-length-le}
@@ -12,12 +11,12 @@ use Rattle.footprint.specs.Footprint.{blockOf, ranges, footprintOf}
 use Rattle.footprint.specs.Inner.{neighboursMeet}
 use Rattle.footprint.specs.declared.Entry.{Entry}
 use Rattle.footprint.specs.declared.Limits.{Limits}
-use Rattle.numbers.specs.Order.{InOrder}
 use Rattle.numbers.specs.Pairs.{isOdd, pairs, flat}
 use Rattle.numbers.specs.Range.{Range, range, blank}
 use Rattle.sort.specs.Sort.{Ascending, Sorted}
 use Rattle.numbers.proofs.Order.{in-offset}
 use Rattle.numbers.proofs.Pairs.{length-pairs, pair-at, pair-in, pairs-take, even-list}
+use Rattle.sort.proofs.Laws.{ascending-at}
 
 -- i numbers are copied behind the first four of s
 pub record Copied (xs s₀ : List ℕ) (n : ℕ) (s : List ℕ) (i : ℕ) : Type 0 where
@@ -58,12 +57,6 @@ pub record Looked (s : List ℕ) (n i : ℕ) : Type 0 where
 pub look-begins : (s : List ℕ) → Ascending (pairs s) → Looked s (length s / 2) 0
 look-begins s a = record { all = sym (length-pairs s); order = a; rest = refl }
 
-in-order-at : (l : List Range) (i : ℕ) → Ascending l → suc i < length l → InOrder (getD l i blank) (getD l (suc i) blank)
-in-order-at [] i a h = absurd (omega arith)
-in-order-at (x ∷ []) i a h = absurd (omega arith)
-in-order-at (x ∷ y ∷ l) zero a h = a .0 .0
-in-order-at (x ∷ y ∷ l) (suc i) a h = in-order-at (y ∷ l) i (a .1) (le-of-suc-le-suc h)
-
 short : (l : List Range) → length l ≤ 1 → neighboursMeet l ≡ false
 unfolding neighboursMeet
 short [] h = refl
@@ -83,7 +76,7 @@ module _ {s : List ℕ} {n i : ℕ} (g : Looked s n i) where
 
     pub look-order : getD s (2 * i) 0 ≤ getD s (2 * i + 2) 0
     look-order =
-        let o = in-offset (getD (pairs s) i blank) (getD (pairs s) (suc i) blank) (in-order-at (pairs s) i (g .order) (omega (arith, g .all))) in
+        let o = in-offset (getD (pairs s) i blank) (getD (pairs s) (suc i) blank) (ascending-at (pairs s) i (suc i) (g .order) (omega arith) (omega (arith, g .all))) in
         omega (arith, o, ap (λ (r : Range). r .offset) at, ap (λ (r : Range). r .offset) behind-at)
 
     pub look-next : neighboursMeet (pairs s) ≡ (ltb (getD s (2 * i + 2) 0 - getD s (2 * i) 0) (getD s (2 * i + 1) 0) || neighboursMeet (drop (i + 1) (pairs s)))

@@ -1,8 +1,8 @@
 -- The overlap test: what `overlaps` says of the bytes, and that on a sorted list the neighbours decide.
 use Prim.Native.Nat.{ℕ, zero, suc, _+_, _-_, _≤_, _<_}
-use mathlib.Core.Bool.{Bool, true, false, _||_, or-true}
+use mathlib.Core.Bool.{true, false, _||_}
 use mathlib.Core.List.{List, [], _∷_}
-use mathlib.Core.Path.{_≡_, refl, ap, sym, _∙_}
+use mathlib.Core.Path.{_≡_, refl, sym, _∙_}
 use native.Mathlib.Nat.{le-of-suc-le-suc, not-suc-le-zero}
 use native.Mathlib.Omega.{arith}
 use lib.Dec.{ltb}
@@ -16,9 +16,10 @@ use Rattle.numbers.specs.Range.{Range, endOf, Meet, meets, blank}
 use Rattle.numbers.specs.Sums.{top}
 use Rattle.sort.specs.Sort.{insert, sorted, Ascending}
 use Rattle.numbers.proofs.Cases.{cases, clash, or-false}
-use Rattle.numbers.proofs.Lists.{all-at, all-imp, any-at, any-true, any-false, of-none}
+use Rattle.numbers.proofs.Lists.{all-at, all-imp, any-at, any-true, any-false, of-none, or-exchange}
 use Rattle.numbers.proofs.Order.{in-offset}
 use Rattle.numbers.proofs.Ranges.{end-exact, apart, meets-true, meet-true, meets-false, meets-comm}
+use Rattle.sort.proofs.Laws.{test-insert, test-sorted}
 
 -- two ranges of the list, at different places, that meet
 pub record TwoMeet (l : List Range) : Type 0 where
@@ -52,38 +53,17 @@ overlaps-false (r ∷ rs) e (suc i) (suc j) a b m =
 
 -- ---- the sorted list overlaps itself as the list does
 
-any-insert : (f : Range → Bool) (x : Range) (l : List Range) → any f (insert x l) ≡ (f x || any f l)
-unfolding any insert
-any-insert f x [] = refl
-any-insert f x (y ∷ ys) =
-    cases (precedes x y) (λ e. simp e)
-    (λ e. simp (e, any-insert f x ys) (exchange (f y) (f x) (any f ys)))
-  where
-    exchange : (a b c : Bool) → (a || (b || c)) ≡ (b || (a || c))
-    exchange true b c = sym (or-true b)
-    exchange false b c = refl
-
 overlaps-insert : (x : Range) (l : List Range) → overlaps (insert x l) ≡ (any (meets x) l || overlaps l)
 unfolding overlaps any insert
 overlaps-insert x [] = refl
 overlaps-insert x (y ∷ ys) =
     cases (precedes x y) (λ e. simp e)
-    (λ e. simp (e, any-insert (meets y) x ys, overlaps-insert x ys, meets-comm y x) (exchange (meets x y) (any (meets y) ys) (any (meets x) ys) (overlaps ys)))
-  where
-    exchange : (a b c d : Bool) → ((a || b) || (c || d)) ≡ ((a || c) || (b || d))
-    exchange true b c d = refl
-    exchange false true c d = sym (or-true c)
-    exchange false false c d = refl
-
-any-sorted : (f : Range → Bool) (l : List Range) → any f (sorted l) ≡ any f l
-unfolding any sorted
-any-sorted f [] = refl
-any-sorted f (x ∷ xs) = any-insert f x (sorted xs) ∙ ap (λ (b : Bool). f x || b) (any-sorted f xs)
+    (λ e. simp (e, test-insert (meets y) x ys, overlaps-insert x ys, meets-comm y x) (or-exchange (meets x y) (any (meets y) ys) (any (meets x) ys) (overlaps ys)))
 
 pub overlaps-sorted : (l : List Range) → overlaps (sorted l) ≡ overlaps l
 unfolding overlaps sorted
 overlaps-sorted [] = refl
-overlaps-sorted (x ∷ xs) = overlaps-insert x (sorted xs) ∙ rw (any-sorted (meets x) xs, overlaps-sorted xs)
+overlaps-sorted (x ∷ xs) = overlaps-insert x (sorted xs) ∙ rw (test-sorted (meets x) xs, overlaps-sorted xs)
 
 -- ---- of a sorted list of ranges that have bytes and end below 2^64 the neighbours decide
 

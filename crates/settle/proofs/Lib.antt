@@ -1,5 +1,6 @@
 pub mod Tests
 pub mod Indices
+pub mod Keeping
 pub mod Reading
 pub mod Tree
 pub mod Ranking
@@ -7,10 +8,11 @@ pub mod Laying
 pub mod Ordering
 pub mod Refusing
 pub mod Naming
-pub mod Marking
 pub mod Namesakes
+pub mod Marking
 pub mod Others
+pub mod Words
+pub mod Sweeping
 pub mod Meeting
 pub mod Striking
 pub mod Settling
-pub mod Sweeping

@@ -1,15 +1,15 @@
 -- The marks, written one by one.
 use Prim.Native.Nat.{ℕ, zero, suc, _+_, _*_, _≤_, _<_}
 use mathlib.Core.Bool.{Bool, true, false, cond}
-use mathlib.Core.List.{List, [], _∷_, _++_}
+use mathlib.Core.List.{List, [], _∷_}
 use mathlib.Core.Path.{_≡_, refl, ap, sym, _∙_}
 use native.Mathlib.Omega.{arith}
 use lib.ListN.{length, set, length-append}
-use mir.Val.{boolByte}
 use Rattle.numbers.specs.Lists.{written}
 use Rattle.settle.specs.Inner.{firsts}
 use Rattle.settle.specs.Settle.{markOf}
 use Rattle.numbers.proofs.Lists.{written-length, written-next}
+use mir.Val.{boolByte}
 
 pub byte-small : (b : Bool) → boolByte b ≤ 1
 byte-small true = omega arith

@@ -1,58 +1,27 @@
 -- `renamed` of specs/Settle: another record of the same name has no lower number; what `outdone` tests by index.
 use Prim.Native.Nat.{ℕ, zero, suc, _+_, _-_, _≤_, _<_, max}
-use mathlib.Core.Bool.{Bool, true, false, _&&_, _||_, and-true, and-false, or-true as or-right, or-false as or-none, or-assoc}
+use mathlib.Core.Bool.{Bool, true, false, _&&_, _||_, and-true, and-false, or-false as or-none, or-assoc}
 use mathlib.Core.List.{List, [], _∷_, _++_, append-assoc}
 use mathlib.Core.Logic.{_⊎_, ⊎-elim}
 use mathlib.Core.Path.{_≡_, refl, ap, sym, _∙_}
 use native.Mathlib.Omega.{arith}
 use lib.Dec.{eqb, ltb, leb, leb·suc-suc}
-use lib.ListN.{length, getD, take, drop, length-append, length-take, length-drop}
+use lib.ListN.{length, getD, take, drop, length-take, length-drop}
 use lib.Seq.{length-take-le, split-at, getD-take, getD-drop}
-use borrow.Author.Tests.{ltb-true, ltb-false, lt-ltb, le-ltb, le-leb, lt-leb, eq-eqb, ne-eqb}
+use borrow.Author.Tests.{ltb-true, ltb-false, le-ltb, le-leb, lt-leb, eq-eqb, ne-eqb}
 use Rattle.numbers.specs.Lists.{All, any}
 use Rattle.settle.specs.Inner.{Enough, Short, OwnShort, noRegion}
 use Rattle.settle.specs.Naming.{nameAt, Tagged, Listed, rivals, anyBelow, outdone}
 use Rattle.settle.specs.Regions.{Lent, Region, regionsOf}
 use Rattle.settle.specs.Settle.{keep, same, highest, renamed}
 use Rattle.numbers.proofs.Cases.{cases, by-eq}
-use Rattle.numbers.proofs.Lists.{all-at, any-true, any-false, of-any, any-imp, any-at, any-of}
+use Rattle.numbers.proofs.Lists.{all-at, any-true, any-false, of-any, any-imp, any-at, any-of, any-append}
+use Rattle.settle.proofs.Keeping.{keep-append, any-keep, any-kept, any-middle, keep-middle}
 use Rattle.settle.proofs.Naming.{same-true, true-same, rival-itself, rival-longer, below-of, below-true}
 use Rattle.settle.proofs.Reading.{length-of, region-of}
 use Rattle.settle.proofs.Tests.{both-ways}
 
--- ---- the elements that pass a test
-
-module _ {A : Type 0} (f : A → Bool) where
-  keep-append : (xs ys : List A) → keep f (xs ++ ys) ≡ keep f xs ++ keep f ys
-  unfolding keep
-  keep-append [] ys = refl
-  keep-append (x ∷ xs) ys = cases (f x) (λ e. simp (e, keep-append xs ys)) (λ e. simp (e, keep-append xs ys))
-
-  any-append : (xs ys : List A) → any f (xs ++ ys) ≡ (any f xs || any f ys)
-  unfolding any
-  any-append [] ys = refl
-  any-append (x ∷ xs) ys = cases (f x) (λ e. simp e) (λ e. simp (e, any-append xs ys))
-
-  any-keep : (g : A → Bool) (l : List A) → any g (keep f l) ≡ any (λ (x : A). f x && g x) l
-  unfolding any keep
-  any-keep g [] = refl
-  any-keep g (x ∷ xs) = cases (f x) (λ e. simp (e, any-keep g xs)) (λ e. simp (e, any-keep g xs))
-
-  any-kept : (l : List A) → ltb 0 (length (keep f l)) ≡ any f l
-  unfolding any keep
-  any-kept [] = refl
-  any-kept (x ∷ xs) = cases (f x) (λ e. simp e (lt-ltb 0 (suc (length (keep f xs))) (omega arith))) (λ e. simp (e, any-kept xs))
-
-  -- an element may as well stand in front
-  any-middle : (xs : List A) (y : A) (ys : List A) → any f (xs ++ (y ∷ ys)) ≡ (f y || any f (xs ++ ys))
-  unfolding any
-  any-middle [] y ys = refl
-  any-middle (x ∷ xs) y ys = cases (f x) (λ e. simp (e, or-right)) (λ e. simp (e, any-middle xs y ys))
-
-  keep-middle : (xs : List A) (y : A) (ys : List A) → length (keep f (xs ++ (y ∷ ys))) ≡ length (keep f (y ∷ (xs ++ ys)))
-  unfolding keep
-  keep-middle xs y ys =
-      cases (f y) (λ e. simp (keep-append, e, length-append) (omega arith)) (λ e. simp (keep-append, e, length-append))
+-- ---- the highest number, in any order
 
 highest-middle : (xs : List Region) (y : Region) (ys : List Region) → highest (xs ++ (y ∷ ys)) ≡ max (y .seq) (highest (xs ++ ys))
 unfolding highest
@@ -139,7 +108,7 @@ module _ (us un : List Region) (i : ℕ) (h : i < length us) where
       ∙ or-two (keep its (take i us)) r (keep its rest)
       ∙ ap (any (λ (q : Region). leb (r .seq) (q .seq))) (sym (keep-append its (take i us) rest))
       ∙ any-keep its (λ (q : Region). leb (r .seq) (q .seq)) (take i us ++ rest)
-      ∙ simp (any-append, any-keep)
+      ∙ simp (any-append (alike r) (take i us) rest, any-append (alike r) (drop (suc i) us) (keep named un), any-keep)
 
 -- ---- the same by index
 

@@ -8,13 +8,13 @@ use lib.Seq.{getD-take, getD-drop, length-take-le, take-at, drop-at}
 use Rattle.numbers.specs.Pairs.{pairs}
 use Rattle.numbers.specs.Range.{Range, range, blank, endOf}
 use Rattle.numbers.specs.Sums.{sum}
-use Rattle.sort.specs.Sort.{Sorted, sorted}
 use Rattle.settle.specs.Inner.{Sized}
 use Rattle.settle.specs.Laying.{Laid, Ordered, noPiece}
 use Rattle.settle.specs.Regions.{Piece, piece, pieces, piecesFrom, regions}
+use Rattle.sort.specs.Sort.{Sorted, sorted}
 use Rattle.numbers.proofs.Pairs.{even-list, length-pairs, pairs-append, pairs-take, pairs-drop}
-use Rattle.sort.proofs.Laws.{sorted-pairs, sorted-length}
 use Rattle.settle.proofs.Laying.{laid-more}
+use Rattle.sort.proofs.Laws.{sorted-pairs, sorted-length}
 
 -- as many pieces as the records have ranges
 pub pieces-length : (n : ℕ) (seqs counts : List ℕ) (rs : List Range) (lens names : List ℕ) (i : ℕ) → n ≤ length counts → sum (take n counts) ≤ length rs

@@ -1,26 +1,25 @@
 -- Ranks: the keys of all records, and what the walk over the sorted keys assigns.
-use Prim.Native.Nat.{ℕ, zero, suc, _+_, _-_, _*_, _≤_, _<_}
-use mathlib.Core.List.{List, [], _∷_, _++_}
-use mathlib.Core.Logic.{inl, inr}
+use Prim.Native.Nat.{ℕ, _+_, _-_, _*_, _≤_, _<_}
+use mathlib.Core.Bool.{true, false}
+use mathlib.Core.List.{List, _++_}
 use mathlib.Core.Path.{_≡_, refl, ap, sym, _∙_}
 use native.Mathlib.Omega.{arith}
+use lib.Dec.{ltb, leb}
 use lib.ListN.{length, getD, set, take, replicate, length-set, length-append, length-replicate, List·getD-append}
 use lib.Seq.{getD-take, length-take-le, getD-append-add}
+use borrow.Author.Tests.{lt-ltb, le-ltb, ltb-true, lt-leb, le-leb}
 use Rattle.numbers.specs.Lists.{All, Any}
 use Rattle.numbers.specs.Pairs.{isOdd, pairs}
 use Rattle.numbers.specs.Range.{Range, range, blank}
-use Rattle.settle.specs.Ranking.{Keyed, Keys, below, Ranked, Ranks, Steady}
-use Rattle.settle.proofs.Indices.{stored-new, stored-old, same-pairs}
-use Rattle.numbers.proofs.Cases.{by-eq, by-lt, cases}
+use Rattle.settle.specs.Ranking.{Keyed, Keys, below, Ranked, Ranks}
+use Rattle.sort.specs.Sort.{Ascending, Sorted, sorted}
+use Rattle.numbers.proofs.Cases.{by-eq, by-lt}
 use Rattle.numbers.proofs.Lists.{all-at, all-of, all-imp, any-of, any-at, any-imp}
 use Rattle.numbers.proofs.Order.{in-offset}
 use Rattle.numbers.proofs.Pairs.{even-list, length-pairs, pairs-take}
-use Rattle.sort.specs.Sort.{Ascending, Sorted, sorted}
+use Rattle.settle.proofs.Indices.{stored-new, stored-old, same-pairs}
+use Rattle.settle.proofs.Keeping.{keep-front, keep-most, keep-less, keep-all}
 use Rattle.sort.proofs.Laws.{ascending-at, all-sorted, any-sorted, sorted-ascending, sorted-length, sorted-pairs}
-use Rattle.settle.specs.Settle.{keep}
-use borrow.Author.Tests.{lt-ltb, le-ltb, ltb-true, lt-leb, le-leb}
-use lib.Dec.{ltb, leb}
-use mathlib.Core.Bool.{Bool, true, false}
 
 -- ---- the keys, one by one
 
@@ -75,18 +74,6 @@ pub record Walking (keys : List Range) (m : ℕ) (ranks : List ℕ) (rank t : �
   pub lower : (s : ℕ) → s < rank → getD keys s blank .offset < getD keys rank blank .offset
   pub equal : (s : ℕ) → rank ≤ s → s < t → getD keys s blank .offset ≡ getD keys rank blank .offset
   pub ranked : (s : ℕ) → s < t → getD ranks (getD keys s blank .len) 0 ≡ below keys (getD keys s blank .offset)
-
--- a list whose first r elements pass a test and whose others do not has r that pass
-pub keep-front : (f : Range → Bool) (l : List Range) (r : ℕ) → r ≤ length l
-    → ((s : ℕ) → s < r → f (getD l s blank) ≡ true)
-    → ((s : ℕ) → r ≤ s → s < length l → f (getD l s blank) ≡ false)
-    → length (keep f l) ≡ r
-unfolding keep
-keep-front f [] r h a b = omega arith
-keep-front f (x ∷ xs) zero h a b =
-    simp (b 0 (omega arith) (omega arith)) (keep-front f xs 0 (omega arith) (λ s i. absurd (omega arith)) (λ s i j. b (suc s) (omega arith) (omega arith)))
-keep-front f (x ∷ xs) (suc r) h a b =
-    simp (a 0 (omega arith)) (ap suc (keep-front f xs r (omega arith) (λ s i. a (suc s) (omega arith)) (λ s i j. b (suc s) (omega arith) (omega arith))))
 
 pub walking-begins : (keys : List Range) (ranks : List ℕ) → Walking keys (length ranks) ranks 0 0
 walking-begins keys ranks =
@@ -144,7 +131,7 @@ module _ {keys : List Range} {ranks : List ℕ} {m rank t : ℕ} (o : Ascending 
         counted : below keys (number t) ≡ r
         counted =
             let e : number t ≡ number r = eq t b (omega arith) in
-            keep-front (λ (p : Range). ltb (p .offset) (number t)) keys r (omega arith)
+            keep-front (λ (p : Range). ltb (p .offset) (number t)) keys blank r (omega arith)
             (λ s i. let l = lo s i in lt-ltb (number s) (number t) (omega arith))
             (λ s i j. let l = rising r s i j in le-ltb (number s) (number t) (omega arith))
 
@@ -169,30 +156,7 @@ module _ {keys : List Range} {ranks : List ℕ} {m rank t : ℕ} (o : Ascending 
   pub walking-ends : length keys ≤ t → Ranked keys ranks
   walking-ends h = record { rank = λ s i. g .ranked s (omega arith) }
 
--- ---- how many pass a test
-
-module _ {A : Type 0} (f g : A → Bool) (imp : (x : A) → f x ≡ true → g x ≡ true) where
-  pub keep-most : (l : List A) → length (keep f l) ≤ length (keep g l)
-  unfolding keep
-  keep-most [] = omega arith
-  keep-most (x ∷ xs) =
-      let h = keep-most xs in
-      cases (f x) (λ e. simp (e, imp x e) (omega arith))
-      (λ e. cases (g x) (λ d. simp (e, d) (omega arith)) (λ d. simp (e, d) h))
-
-  pub keep-less : (l : List A) → Any (λ (x : A). (f x ≡ false) × (g x ≡ true)) l → length (keep f l) < length (keep g l)
-  unfolding keep
-  keep-less [] a = absurd a
-  keep-less (x ∷ xs) (inl p) = let h = keep-most xs in simp (p .0, p .1) (omega arith)
-  keep-less (x ∷ xs) (inr a) =
-      let h = keep-less xs a in
-      cases (f x) (λ e. simp (e, imp x e) (omega arith))
-      (λ e. cases (g x) (λ d. simp (e, d) (omega arith)) (λ d. simp (e, d) h))
-
-pub keep-all : {A : Type 0} (l : List A) → keep (λ (x : A). true) l ≡ l
-unfolding keep
-keep-all [] = refl
-keep-all (x ∷ xs) = ap (λ (t : List _). x ∷ t) (keep-all xs)
+-- ---- ranks stand as the numbers do
 
 abbrev Numbered : List Range → ℕ → Type 0
 Numbered keys s = Any (λ (p : Range). p .offset ≡ s) keys

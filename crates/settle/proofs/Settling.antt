@@ -1,23 +1,23 @@
 -- The call: what it means that 1 does not apply, and that the marks written are those that are promised.
 use Prim.Native.Nat.{ℕ, zero, suc, _+_, _-_, _*_, _≤_, _<_}
-use mathlib.Core.Bool.{Bool, true, false, cond}
-use mathlib.Core.List.{List, [], _∷_, _++_}
+use mathlib.Core.Bool.{Bool, true, false}
+use mathlib.Core.List.{List, [], _∷_}
 use mathlib.Core.Path.{_≡_, refl, ap, sym, _∙_}
 use native.Mathlib.Nat.{le-of-suc-le-suc, not-suc-le-zero}
 use native.Mathlib.Omega.{arith}
-use lib.ListN.{length, getD, take, replicate, length-append, length-replicate, List·getD-append}
+use lib.ListN.{length, getD, take, replicate, length-replicate, List·getD-append}
 use lib.Seq.{ext-getD, getD-at, length-take-le}
 use borrow.Author.Tests.{ltb-false}
 use Rattle.numbers.specs.Lists.{written}
 use Rattle.numbers.specs.Refusals.{refuse}
-use Rattle.numbers.specs.Sums.{stop, sum}
+use Rattle.numbers.specs.Sums.{stop}
 use Rattle.settle.specs.Inner.{Enough, Short, OwnShort, Sized, Struck, firsts, noRegion}
-use Rattle.settle.specs.Naming.{Tagged, Listed, outdone}
+use Rattle.settle.specs.Naming.{outdone}
 use Rattle.settle.specs.Regions.{Lent, Region, regionsOf}
 use Rattle.settle.specs.Settle.{overlapped, superseded, renamed, markOf, marksFrom, marksOf, rangesIn, settleFails, Settled}
 use Rattle.numbers.proofs.Cases.{by-lt, clash, or-false}
 use Rattle.settle.proofs.Marking.{firsts-length}
-use Rattle.settle.proofs.Namesakes.{renamed-is, listed, short-at}
+use Rattle.settle.proofs.Namesakes.{renamed-is}
 use Rattle.settle.proofs.Reading.{length-of}
 use Rattle.settle.proofs.Refusing.{passed, short, own-short}
 

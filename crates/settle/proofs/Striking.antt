@@ -2,23 +2,21 @@
 use Prim.Native.Nat.{ℕ, _+_, _-_, _*_, _≤_, _<_}
 use mathlib.Core.Bool.{Bool, false, _||_}
 use mathlib.Core.List.{List, _++_}
-use mathlib.Core.Path.{_≡_, ap, sym, _∙_}
+use mathlib.Core.Path.{_≡_, ap, _∙_}
 use native.Mathlib.Omega.{arith}
 use lib.ListN.{length, getD, take, drop, replicate, length-drop, length-replicate, getD-replicate}
 use lib.Seq.{take-all}
-use Rattle.numbers.specs.Lists.{All}
 use Rattle.numbers.specs.Pairs.{pairs}
 use Rattle.numbers.specs.Range.{Range}
 use Rattle.settle.specs.Inner.{Sized, Struck}
 use Rattle.settle.specs.Laying.{Ordered}
 use Rattle.settle.specs.Ranking.{Ranks}
-use Rattle.settle.specs.Regions.{Lent, Piece, pieces, piecesFrom, regionsOf}
+use Rattle.settle.specs.Regions.{Lent, pieces, piecesFrom, regionsOf}
 use Rattle.settle.specs.Sweeping.{Ready, SweptBoth, itemsOf}
 use Rattle.settle.specs.declared.sweep.Item.{Item}
 use Rattle.numbers.proofs.Lists.{all-imp}
 use Rattle.numbers.proofs.Pairs.{length-pairs, pairs-take, pairs-drop}
 use Rattle.settle.proofs.Meeting.{all-seqs, items-owner, order-places, swept-overlapped, swept-superseded}
-use Rattle.settle.proofs.Ordering.{both-length}
 
 -- the two parts of scratch, as the code cuts them
 module _ (s : List ℕ) (n : ℕ) where

@@ -1,19 +1,19 @@
 -- The sweep: what is read on the way, and whom each range on it strikes.
-use Prim.Native.Nat.{ℕ, zero, suc, _+_, _-_, _/_, _≤_, _<_}
+use Prim.Native.Nat.{ℕ, suc, _+_, _-_, _/_, _≤_, _<_}
 use mathlib.Core.Bool.{Bool, true, false, not, _&&_, _||_, or-false, and-false, or-assoc}
 use mathlib.Core.List.{List, [], _∷_, _++_, map, reverse, reverse-cons}
 use mathlib.Core.Path.{_≡_, refl, ap, sym, _∙_}
 use native.Mathlib.Nat.{not-suc-le-zero}
 use native.Mathlib.Omega.{arith}
-use lib.ListN.{length, getD, set, take, replicate, length-map, length-set, length-reverse, List·getD-append}
 use lib.Dec.{ltb, leb, eqb}
+use lib.ListN.{length, getD, set, take, replicate, length-map, length-set, length-reverse, List·getD-append}
 use lib.Seq.{getD-at, set-getD, take-suc, take-all}
 use borrow.Author.Tests.{lt-ltb, le-ltb, lt-leb, le-leb, eq-eqb, ne-eqb}
 use Rattle.numbers.specs.Lists.{All, any}
 use Rattle.numbers.specs.Pairs.{pairs}
 use Rattle.numbers.specs.Range.{Range, blank}
-use Rattle.settle.specs.Sweeping.{itemOf, noItem, itemAt, itemsOf, mirror, walk, within, usableOver, ownOver, struck, behind, strikes, Arrived, Ready, Swept, SweptBoth}
 use Rattle.settle.specs.Inner.{Tree, reach, Raised}
+use Rattle.settle.specs.Sweeping.{itemOf, noItem, itemAt, itemsOf, mirror, walk, within, usableOver, ownOver, struck, behind, strikes, Arrived, Ready, Swept, SweptBoth}
 use Rattle.settle.specs.declared.sweep.Item.{Item}
 use Rattle.numbers.proofs.Cases.{by-lt, by-eq, cases, clash}
 use Rattle.numbers.proofs.Lists.{all-append, all-at}

@@ -1,25 +1,18 @@
-use borrow.Author.Needs.{needs}
-use Rattle.settle.proofs.settle.Statement.{statement}
-use Rattle.settle.proofs.settle.Tie as tie
-use Rattle.settle.proofs.settle.Reads as reads
-use Rattle.settle.proofs.settle.Lts as lts
-use Rattle.settle.proofs.counts.ranges_in.Reads as ranges-in-reads
-use Rattle.settle.proofs.marks.write_marks.Reads as write-marks-reads
-use Rattle.settle.proofs.names.tag_names.Reads as tag-names-reads
-use Rattle.settle.proofs.settle_fails.Reads as settle-fails-reads
-use Rattle.settle.proofs.struck.strike.Reads as strike-reads
-use native.Mathlib.Omega.{arith}
+-- `settle::settle` meets its contract: behind the refusal every list is long enough.
+use Prim.Native.Nat.{ℕ}
 use mathlib.Core.Bool.{false}
-use mathlib.Core.Path.{_≡_, refl, sym, _∙_, ap}
 use mathlib.Core.List.{List}
-use Prim.Native.Nat.{ℕ, _-_, _*_}
+use mathlib.Core.Path.{_≡_, refl, sym, _∙_, ap}
+use native.Mathlib.Omega.{arith}
 use lib.ListN.{length}
-use lib.Seq.{length-take-le}
+use borrow.Author.Needs.{needs}
 use Rattle.numbers.specs.Lists.{written}
 use Rattle.settle.specs.Regions.{lent, Lent}
 use Rattle.settle.specs.Settle.{settleFails}
 use Rattle.settle.proofs.Namesakes.{listed, short-at}
 use Rattle.settle.proofs.Settling.{Accepted, accepted, sized, array-room, array-more, part-size, count-first, count-all, count-few, count-space, marks-found, settled-refused, settled-marked}
+use Rattle.settle.proofs.settle.Statement.{statement}
+use Rattle.settle.proofs.settle.Tie as tie
 
 abbrev ours : (c : tie.Else1) → Lent
 ours c = (lent (c .before .before .before .before .before .before .before .before .before .before .before .before .before .before .args .usable) (c .before .before .before .before .before .before .before .before .before .before .before .before .before .before .args .seqs .now) (c .before .before .before .before .before .before .before .before .before .before .before .before .before .before .args .counts .now) (c .before .before .before .before .before .before .before .before .before .before .before .before .before .before .args .ranges .now) (c .before .before .before .before .before .before .before .before .before .before .before .before .before .before .args .lens .now) (c .before .before .before .before .before .before .before .before .before .before .before .before .before .before .args .names .now))
@@ -33,90 +26,69 @@ passed c = sym (c .before .settle-fails .ensures) ∙ c .if1 .left
 ok : (c : tie.Else1) → Accepted (ours c) (theirs c) (length (c .before .before .before .before .before .before .before .before .before .before .before .before .before .before .args .marks .now)) (length (c .before .before .before .before .before .before .before .before .before .before .before .before .before .before .args .scratch .now))
 ok c = accepted (ours c) (theirs c) (length (c .before .before .before .before .before .before .before .before .before .before .before .before .before .before .args .marks .now)) (length (c .before .before .before .before .before .before .before .before .before .before .before .before .before .before .args .scratch .now)) (passed c)
 
--- src/lib.rt:88:8
 settle-fails-requires : tie.Need-settle-fails-requires
 settle-fails-requires c κs = search needs
 
--- src/lib.rt:104:9
 returns : tie.Need-returns
 returns c = settled-refused (lent (c .before .before .before .before .before .before .before .before .before .before .before .before .before .before .args .usable) (c .before .before .before .before .before .before .before .before .before .before .before .before .before .before .args .seqs .now) (c .before .before .before .before .before .before .before .before .before .before .before .before .before .before .args .counts .now) (c .before .before .before .before .before .before .before .before .before .before .before .before .before .before .args .ranges .now) (c .before .before .before .before .before .before .before .before .before .before .before .before .before .before .args .lens .now) (c .before .before .before .before .before .before .before .before .before .before .before .before .before .before .args .names .now)) (lent (c .before .before .before .before .before .before .before .before .before .before .before .before .before .before .args .unavailable) (c .before .before .before .before .before .before .before .before .before .before .before .before .before .before .args .own-seqs .now) (c .before .before .before .before .before .before .before .before .before .before .before .before .before .before .args .own-counts .now) (c .before .before .before .before .before .before .before .before .before .before .before .before .before .before .args .own-ranges .now) (c .before .before .before .before .before .before .before .before .before .before .before .before .before .before .args .own-lens .now) (c .before .before .before .before .before .before .before .before .before .before .before .before .before .before .args .own-names .now)) _ _ (sym (c .before .settle-fails .ensures) ∙ c .if1 .taken)
 
--- src/lib.rt:106:17
 ranges-in-requires : tie.Need-ranges-in-requires
 ranges-in-requires c κs = ok (c) .ours .counts
 
--- src/lib.rt:107:21
 ranges-in-requires-2 : tie.Need-ranges-in-requires-2
 ranges-in-requires-2 c κs = ok (c .before) .theirs .counts
 
--- src/lib.rt:107:13
 add-n : tie.Need-add-n
 add-n c = omega (arith, count-few (ok (c .before .before)) _ _ (c .before .ranges-in .ensures) (c .ranges-in2 .ensures))
 
--- src/lib.rt:121:25
 mul-strike : tie.Need-mul-strike
 mul-strike c = omega (arith, count-few (ok (c .before .before)) _ _ (c .before .ranges-in .ensures) (c .ranges-in2 .ensures))
 
--- src/lib.rt:121:9
 sub-strike : tie.Need-sub-strike
 sub-strike c = search needs
 
--- src/lib.rt:121:9
 part-strike-start : tie.Need-part-strike-start
 part-strike-start c = search needs
 
--- src/lib.rt:121:9
 part-strike-end : tie.Need-part-strike-end
 part-strike-end c = omega (arith, count-space (ok (c .before .before)) _ _ (c .before .ranges-in .ensures) (c .ranges-in2 .ensures))
 
--- src/lib.rt:122:9
 slice-aggregate-strike : tie.Need-slice-aggregate-strike
 slice-aggregate-strike c = search needs
 
--- src/lib.rt:123:9
 slice-aggregate-strike-2 : tie.Need-slice-aggregate-strike-2
 slice-aggregate-strike-2 c = search needs
 
--- src/lib.rt:110:5
 strike-requires : tie.Need-strike-requires
 strike-requires c κs = let g = ok (c .before .before .before .before .before) in
     let d = c .before .before .before .before .ranges-in .ensures in
     let e = c .before .before .before .ranges-in2 .ensures in
     ((sized (ours (c .before .before .before .before .before)) (g .ours), sized (theirs (c .before .before .before .before .before)) (g .theirs)), ((g .ours .seqs, g .theirs .seqs), ((count-first g _ _ d e, count-all g _ _ d e, part-size _ _ (count-space g _ _ d e), count-few g _ _ d e), (refl, refl))))
 
--- src/lib.rt:126:36
 slice-aggregate-tag-names : tie.Need-slice-aggregate-tag-names
 slice-aggregate-tag-names c = search needs
 
--- src/lib.rt:126:5
 tag-names-requires : tie.Need-tag-names-requires
 tag-names-requires c κs = let g = ok (c .before .before .before .before .before .before .before .before .before .before .before) in (g .ours .lens, g .ours .names, array-room {A = ℕ} 0 (ours (c .before .before .before .before .before .before .before .before .before .before .before)) (g .ours))
 
--- src/lib.rt:128:49
 slice-aggregate-tag-names-2 : tie.Need-slice-aggregate-tag-names-2
 slice-aggregate-tag-names-2 c = search needs
 
--- src/lib.rt:128:5
 tag-names-requires-2 : tie.Need-tag-names-requires-2
 tag-names-requires-2 c κs = let g = ok (c .before .before .before .before .before .before .before .before .before .before .before .before .before .before) in (g .theirs .lens, g .theirs .names, array-room {A = ℕ} 0 (theirs (c .before .before .before .before .before .before .before .before .before .before .before .before .before .before)) (g .theirs))
 
--- src/lib.rt:134:9
 slice-aggregate-write-marks : tie.Need-slice-aggregate-write-marks
 slice-aggregate-write-marks c = search needs
 
--- src/lib.rt:139:9
 slice-aggregate-write-marks-2 : tie.Need-slice-aggregate-write-marks-2
 slice-aggregate-write-marks-2 c = search needs
 
--- src/lib.rt:140:9
 slice-aggregate-write-marks-3 : tie.Need-slice-aggregate-write-marks-3
 slice-aggregate-write-marks-3 c = search needs
 
--- src/lib.rt:141:9
 slice-aggregate-write-marks-4 : tie.Need-slice-aggregate-write-marks-4
 slice-aggregate-write-marks-4 c = search needs
 
--- src/lib.rt:129:5
 write-marks-requires : tie.Need-write-marks-requires
 write-marks-requires c κs = let g = ok (c .before .before .before .before .before .before .before .before .before .before .before .before .before .before .before .before .before .before .before .before .before) in
     let u = ours (c .before .before .before .before .before .before .before .before .before .before .before .before .before .before .before .before .before .before .before .before .before) in
@@ -126,15 +98,12 @@ write-marks-requires c κs = let g = ok (c .before .before .before .before .befo
     let s = c .before .before .before .before .before .before .before .before .before .before .before .before .before .before .before .strike in
     ((listed u (g .ours) (t .last .1 .1 .1 .0) (array-more {A = ℕ} 0 u (g .ours) (t .last .1 .1 .1 .0) (t .kept .1 .1 .1 .0)) (t .ensures), listed v (g .theirs) (w .last .1 .1 .1 .0) (array-more {A = ℕ} 0 v (g .theirs) (w .last .1 .1 .1 .0) (w .kept .1 .1 .1 .0)) (w .ensures)), (array-more false u (g .ours) (s .last .1 .1 .1 .1 .1 .1 .1 .1 .1 .1 .1 .0) (s .kept .1 .1 .1 .1 .1 .1 .1 .1 .1 .1 .1 .0), array-more false u (g .ours) (s .last .1 .1 .1 .1 .1 .1 .1 .1 .1 .1 .1 .1 .0) (s .kept .1 .1 .1 .1 .1 .1 .1 .1 .1 .1 .1 .1 .0), g .room, λ i h. short-at u (g .ours) i h (g .names)))
 
--- src/lib.rt:70:1
 same-length : tie.Need-same-length
 same-length c = search needs
 
--- src/lib.rt:70:1
 same-length-2 : tie.Need-same-length-2
 same-length-2 c = search needs
 
--- src/lib.rt:70:1
 returns-2 : tie.Need-returns-2
 returns-2 c = let a = c .before .before .before .before .before .before .before .before .before .before .before .before .before .before .before .before .before .before .before .before .before .before .before .before .before .before .before .before .before .before .before .before .before .before .before .before .before .before .args in
     settled-marked (ours (c .before .before .before .before .before .before .before .before .before .before .before .before .before .before .before .before .before .before .before .before .before .before .before .before)) (theirs (c .before .before .before .before .before .before .before .before .before .before .before .before .before .before .before .before .before .before .before .before .before .before .before .before)) _ _ _ _ (passed (c .before .before .before .before .before .before .before .before .before .before .before .before .before .before .before .before .before .before .before .before .before .before .before .before))

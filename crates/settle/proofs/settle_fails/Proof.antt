@@ -1,58 +1,42 @@
+-- `settle::settle_fails` meets its contract: each return is the case that its tests chose.
+use mathlib.Core.Path.{sym, _∙_}
+use native.Mathlib.Omega.{arith}
 use borrow.Author.Needs.{needs}
+use Rattle.settle.specs.Regions.{lent}
+use Rattle.settle.proofs.Refusing.{passed, fails-usable, fails-unavailable, fails-many, fails-marks, fails-scratch, few-sum}
 use Rattle.settle.proofs.settle_fails.Statement.{statement}
 use Rattle.settle.proofs.settle_fails.Tie as tie
-use Rattle.settle.proofs.settle_fails.Reads as reads
-use Rattle.settle.proofs.settle_fails.Lts as lts
-use Rattle.numbers.proofs.passes.Reads as passes-reads
-use Rattle.settle.proofs.counts.lent_fails.Reads as lent-fails-reads
-use Rattle.settle.proofs.counts.ranges_in.Reads as ranges-in-reads
-use native.Mathlib.Omega.{arith}
-use mathlib.Core.Path.{sym, _∙_}
-use Rattle.settle.specs.Regions.{lent}
-use Rattle.settle.proofs.Refusing.{passed, fails-usable, fails-unavailable, fails-many, fails-marks, fails-scratch}
-use Rattle.settle.proofs.Refusing.{few-sum}
 
--- src/lib.rt:42:8
 lent-fails-requires : tie.Need-lent-fails-requires
 lent-fails-requires c κs = search needs
 
--- src/lib.rt:43:9
 returns : tie.Need-returns
 returns c = fails-usable (lent (c .before .before .before .before .before .before .before .before .before .before .before .before .args .usable) (c .before .before .before .before .before .before .before .before .before .before .before .before .args .seqs .now) (c .before .before .before .before .before .before .before .before .before .before .before .before .args .counts .now) (c .before .before .before .before .before .before .before .before .before .before .before .before .args .ranges .now) (c .before .before .before .before .before .before .before .before .before .before .before .before .args .lens .now) (c .before .before .before .before .before .before .before .before .before .before .before .before .args .names .now)) (lent (c .before .before .before .before .before .before .before .before .before .before .before .before .args .unavailable) (c .before .before .before .before .before .before .before .before .before .before .before .before .args .own-seqs .now) (c .before .before .before .before .before .before .before .before .before .before .before .before .args .own-counts .now) (c .before .before .before .before .before .before .before .before .before .before .before .before .args .own-ranges .now) (c .before .before .before .before .before .before .before .before .before .before .before .before .args .own-lens .now) (c .before .before .before .before .before .before .before .before .before .before .before .before .args .own-names .now)) _ _ (sym (c .before .lent-fails .ensures) ∙ c .if1 .taken)
 
--- src/lib.rt:45:8
 lent-fails-requires-2 : tie.Need-lent-fails-requires-2
 lent-fails-requires-2 c κs = search needs
 
--- src/lib.rt:54:9
 returns-2 : tie.Need-returns-2
 returns-2 c = fails-unavailable (lent (c .before .before .before .before .before .before .before .before .before .before .before .before .before .before .args .usable) (c .before .before .before .before .before .before .before .before .before .before .before .before .before .before .args .seqs .now) (c .before .before .before .before .before .before .before .before .before .before .before .before .before .before .args .counts .now) (c .before .before .before .before .before .before .before .before .before .before .before .before .before .before .args .ranges .now) (c .before .before .before .before .before .before .before .before .before .before .before .before .before .before .args .lens .now) (c .before .before .before .before .before .before .before .before .before .before .before .before .before .before .args .names .now)) (lent (c .before .before .before .before .before .before .before .before .before .before .before .before .before .before .args .unavailable) (c .before .before .before .before .before .before .before .before .before .before .before .before .before .before .args .own-seqs .now) (c .before .before .before .before .before .before .before .before .before .before .before .before .before .before .args .own-counts .now) (c .before .before .before .before .before .before .before .before .before .before .before .before .before .before .args .own-ranges .now) (c .before .before .before .before .before .before .before .before .before .before .before .before .before .before .args .own-lens .now) (c .before .before .before .before .before .before .before .before .before .before .before .before .before .before .args .own-names .now)) _ _ (sym (c .before .lent-fails2 .ensures) ∙ c .if2 .taken)
 
--- src/lib.rt:56:9
 ranges-in-requires : tie.Need-ranges-in-requires
 ranges-in-requires c κs = passed _ (lent (c .before .before .before .before .before .before .before .before .before .before .before .before .before .before .args .usable) (c .before .before .before .before .before .before .before .before .before .before .before .before .before .before .args .seqs .now) (c .before .before .before .before .before .before .before .before .before .before .before .before .before .before .args .counts .now) (c .before .before .before .before .before .before .before .before .before .before .before .before .before .before .args .ranges .now) (c .before .before .before .before .before .before .before .before .before .before .before .before .before .before .args .lens .now) (c .before .before .before .before .before .before .before .before .before .before .before .before .before .before .args .names .now)) (sym (c .before .before .before .lent-fails .ensures) ∙ c .before .before .if1 .left) .0 .counts
 
--- src/lib.rt:57:9
 ranges-in-requires-2 : tie.Need-ranges-in-requires-2
 ranges-in-requires-2 c κs = passed _ (lent (c .before .before .before .before .before .before .before .before .before .before .before .before .before .before .before .args .unavailable) (c .before .before .before .before .before .before .before .before .before .before .before .before .before .before .before .args .own-seqs .now) (c .before .before .before .before .before .before .before .before .before .before .before .before .before .before .before .args .own-counts .now) (c .before .before .before .before .before .before .before .before .before .before .before .before .before .before .before .args .own-ranges .now) (c .before .before .before .before .before .before .before .before .before .before .before .before .before .before .before .args .own-lens .now) (c .before .before .before .before .before .before .before .before .before .before .before .before .before .before .before .args .own-names .now)) (sym (c .before .before .lent-fails2 .ensures) ∙ c .before .if2 .left) .0 .counts
 
--- src/lib.rt:58:8
 passes-requires : tie.Need-passes-requires
 passes-requires c κs = search needs
 
--- src/lib.rt:59:9
 returns-3 : tie.Need-returns-3
 returns-3 c = fails-many (lent (c .before .before .before .before .before .before .before .before .before .before .before .before .before .before .before .before .before .before .args .usable) (c .before .before .before .before .before .before .before .before .before .before .before .before .before .before .before .before .before .before .args .seqs .now) (c .before .before .before .before .before .before .before .before .before .before .before .before .before .before .before .before .before .before .args .counts .now) (c .before .before .before .before .before .before .before .before .before .before .before .before .before .before .before .before .before .before .args .ranges .now) (c .before .before .before .before .before .before .before .before .before .before .before .before .before .before .before .before .before .before .args .lens .now) (c .before .before .before .before .before .before .before .before .before .before .before .before .before .before .before .before .before .before .args .names .now)) (lent (c .before .before .before .before .before .before .before .before .before .before .before .before .before .before .before .before .before .before .args .unavailable) (c .before .before .before .before .before .before .before .before .before .before .before .before .before .before .before .before .before .before .args .own-seqs .now) (c .before .before .before .before .before .before .before .before .before .before .before .before .before .before .before .before .before .before .args .own-counts .now) (c .before .before .before .before .before .before .before .before .before .before .before .before .before .before .before .before .before .before .args .own-ranges .now) (c .before .before .before .before .before .before .before .before .before .before .before .before .before .before .before .before .before .before .args .own-lens .now) (c .before .before .before .before .before .before .before .before .before .before .before .before .before .before .before .before .before .before .args .own-names .now)) _ _ _ _ (c .before .before .before .ranges-in .ensures) (c .before .before .ranges-in2 .ensures) (sym (c .before .passes .ensures) ∙ c .if3 .taken)
 
--- src/lib.rt:62:9
 returns-4 : tie.Need-returns-4
 returns-4 c = fails-marks (lent (c .before .before .before .before .before .before .before .before .before .before .before .before .before .before .before .before .before .before .before .args .usable) (c .before .before .before .before .before .before .before .before .before .before .before .before .before .before .before .before .before .before .before .args .seqs .now) (c .before .before .before .before .before .before .before .before .before .before .before .before .before .before .before .before .before .before .before .args .counts .now) (c .before .before .before .before .before .before .before .before .before .before .before .before .before .before .before .before .before .before .before .args .ranges .now) (c .before .before .before .before .before .before .before .before .before .before .before .before .before .before .before .before .before .before .before .args .lens .now) (c .before .before .before .before .before .before .before .before .before .before .before .before .before .before .before .before .before .before .before .args .names .now)) (lent (c .before .before .before .before .before .before .before .before .before .before .before .before .before .before .before .before .before .before .before .args .unavailable) (c .before .before .before .before .before .before .before .before .before .before .before .before .before .before .before .before .before .before .before .args .own-seqs .now) (c .before .before .before .before .before .before .before .before .before .before .before .before .before .before .before .before .before .before .before .args .own-counts .now) (c .before .before .before .before .before .before .before .before .before .before .before .before .before .before .before .before .before .before .before .args .own-ranges .now) (c .before .before .before .before .before .before .before .before .before .before .before .before .before .before .before .before .before .before .before .args .own-lens .now) (c .before .before .before .before .before .before .before .before .before .before .before .before .before .before .before .before .before .before .before .args .own-names .now)) _ _ (c .if4 .taken)
 
--- src/lib.rt:64:31
 add-result : tie.Need-add-result
 add-result c = omega (arith, few-sum (lent (c .before .before .before .before .before .before .before .before .before .before .before .before .before .before .before .before .before .before .before .args .usable) (c .before .before .before .before .before .before .before .before .before .before .before .before .before .before .before .before .before .before .before .args .seqs .now) (c .before .before .before .before .before .before .before .before .before .before .before .before .before .before .before .before .before .before .before .args .counts .now) (c .before .before .before .before .before .before .before .before .before .before .before .before .before .before .before .before .before .before .before .args .ranges .now) (c .before .before .before .before .before .before .before .before .before .before .before .before .before .before .before .before .before .before .before .args .lens .now) (c .before .before .before .before .before .before .before .before .before .before .before .before .before .before .before .before .before .before .before .args .names .now)) (lent (c .before .before .before .before .before .before .before .before .before .before .before .before .before .before .before .before .before .before .before .args .unavailable) (c .before .before .before .before .before .before .before .before .before .before .before .before .before .before .before .before .before .before .before .args .own-seqs .now) (c .before .before .before .before .before .before .before .before .before .before .before .before .before .before .before .before .before .before .before .args .own-counts .now) (c .before .before .before .before .before .before .before .before .before .before .before .before .before .before .before .before .before .before .before .args .own-ranges .now) (c .before .before .before .before .before .before .before .before .before .before .before .before .before .before .before .before .before .before .before .args .own-lens .now) (c .before .before .before .before .before .before .before .before .before .before .before .before .before .before .before .before .before .before .before .args .own-names .now)) (c .before .before .before .before .before .before .before .before .before .before .before .before .before .before .before .before .before .before .before .args .marks) (c .before .before .before .before .before .before .before .before .before .before .before .before .before .before .before .before .before .before .before .args .scratch) _ _ (c .before .before .before .before .ranges-in .ensures) (c .before .before .before .ranges-in2 .ensures) (sym (c .before .before .passes .ensures) ∙ c .before .if3 .left))
 
--- src/lib.rt:24:1
 returns-5 : tie.Need-returns-5
 returns-5 c = fails-scratch (lent (c .before .before .before .before .before .before .before .before .before .before .before .before .before .before .before .before .before .before .before .args .usable) (c .before .before .before .before .before .before .before .before .before .before .before .before .before .before .before .before .before .before .before .args .seqs .now) (c .before .before .before .before .before .before .before .before .before .before .before .before .before .before .before .before .before .before .before .args .counts .now) (c .before .before .before .before .before .before .before .before .before .before .before .before .before .before .before .before .before .before .before .args .ranges .now) (c .before .before .before .before .before .before .before .before .before .before .before .before .before .before .before .before .before .before .before .args .lens .now) (c .before .before .before .before .before .before .before .before .before .before .before .before .before .before .before .before .before .before .before .args .names .now)) (lent (c .before .before .before .before .before .before .before .before .before .before .before .before .before .before .before .before .before .before .before .args .unavailable) (c .before .before .before .before .before .before .before .before .before .before .before .before .before .before .before .before .before .before .before .args .own-seqs .now) (c .before .before .before .before .before .before .before .before .before .before .before .before .before .before .before .before .before .before .before .args .own-counts .now) (c .before .before .before .before .before .before .before .before .before .before .before .before .before .before .before .before .before .before .before .args .own-ranges .now) (c .before .before .before .before .before .before .before .before .before .before .before .before .before .before .before .before .before .before .before .args .own-lens .now) (c .before .before .before .before .before .before .before .before .before .before .before .before .before .before .before .before .before .before .before .args .own-names .now)) _ _ _ _ (c .before .before .before .before .ranges-in .ensures) (c .before .before .before .ranges-in2 .ensures) (sym (c .before .before .before .before .before .before .before .before .lent-fails .ensures) ∙ c .before .before .before .before .before .before .before .if1 .left) (sym (c .before .before .before .before .before .before .lent-fails2 .ensures) ∙ c .before .before .before .before .before .if2 .left) (sym (c .before .before .passes .ensures) ∙ c .before .if3 .left) (c .if4 .left)
 

@@ -1,56 +1,41 @@
-use borrow.Author.Needs.{needs}
-use Rattle.settle.proofs.counts.lent_fails.Statement.{statement}
-use Rattle.settle.proofs.counts.lent_fails.Tie as tie
-use Rattle.settle.proofs.counts.lent_fails.Reads as reads
-use Rattle.settle.proofs.counts.lent_fails.Lts as lts
-use Rattle.settle.proofs.counts.ranges_in.Reads as ranges-in-reads
-use Rattle.settle.proofs.counts.some_long.Reads as some-long-reads
+-- `settle::counts::lent_fails` meets its contract: each return is the case that its tests chose.
+use mathlib.Core.Path.{_∙_}
 use native.Mathlib.Omega.{arith}
-use mathlib.Core.Path.{sym, _∙_}
 use Rattle.settle.specs.Regions.{lent}
 use Rattle.settle.proofs.Refusing.{fails-count, fails-seqs, fails-counts, fails-lens, fails-names, fails-odd, fails-ranges, fails-long}
+use Rattle.settle.proofs.counts.lent_fails.Statement.{statement}
+use Rattle.settle.proofs.counts.lent_fails.Tie as tie
 
--- src/counts.rt:66:9
 returns : tie.Need-returns
 returns c = fails-count _ (lent (c .before .before .before .before .before .before .args .count) (c .before .before .before .before .before .before .args .seqs .now) (c .before .before .before .before .before .before .args .counts .now) (c .before .before .before .before .before .before .args .ranges .now) (c .before .before .before .before .before .before .args .lens .now) (c .before .before .before .before .before .before .args .names .now)) (c .if1 .taken)
 
--- src/counts.rt:69:9
 returns-2 : tie.Need-returns-2
 returns-2 c = fails-seqs _ (lent (c .before .before .before .before .before .before .before .args .count) (c .before .before .before .before .before .before .before .args .seqs .now) (c .before .before .before .before .before .before .before .args .counts .now) (c .before .before .before .before .before .before .before .args .ranges .now) (c .before .before .before .before .before .before .before .args .lens .now) (c .before .before .before .before .before .before .before .args .names .now)) (c .if2 .taken)
 
--- src/counts.rt:72:9
 returns-3 : tie.Need-returns-3
 returns-3 c = fails-counts _ (lent (c .before .before .before .before .before .before .before .before .args .count) (c .before .before .before .before .before .before .before .before .args .seqs .now) (c .before .before .before .before .before .before .before .before .args .counts .now) (c .before .before .before .before .before .before .before .before .args .ranges .now) (c .before .before .before .before .before .before .before .before .args .lens .now) (c .before .before .before .before .before .before .before .before .args .names .now)) (c .if3 .taken)
 
--- src/counts.rt:75:9
 returns-4 : tie.Need-returns-4
 returns-4 c = fails-lens _ (lent (c .before .before .before .before .before .before .before .before .before .args .count) (c .before .before .before .before .before .before .before .before .before .args .seqs .now) (c .before .before .before .before .before .before .before .before .before .args .counts .now) (c .before .before .before .before .before .before .before .before .before .args .ranges .now) (c .before .before .before .before .before .before .before .before .before .args .lens .now) (c .before .before .before .before .before .before .before .before .before .args .names .now)) (c .if4 .taken)
 
--- src/counts.rt:77:22
 mul-if5 : tie.Need-mul-if5
 mul-if5 c = let h = c .before .before .before .if1 .left in omega arith
 
--- src/counts.rt:78:9
 returns-5 : tie.Need-returns-5
 returns-5 c = fails-names _ (lent (c .before .before .before .before .before .before .before .before .before .before .args .count) (c .before .before .before .before .before .before .before .before .before .before .args .seqs .now) (c .before .before .before .before .before .before .before .before .before .before .args .counts .now) (c .before .before .before .before .before .before .before .before .before .before .args .ranges .now) (c .before .before .before .before .before .before .before .before .before .before .args .lens .now) (c .before .before .before .before .before .before .before .before .before .before .args .names .now)) (c .if5 .taken)
 
--- src/counts.rt:81:9
 returns-6 : tie.Need-returns-6
 returns-6 c = fails-odd _ (lent (c .before .before .before .before .before .before .before .before .before .before .before .args .count) (c .before .before .before .before .before .before .before .before .before .before .before .args .seqs .now) (c .before .before .before .before .before .before .before .before .before .before .before .args .counts .now) (c .before .before .before .before .before .before .before .before .before .before .before .args .ranges .now) (c .before .before .before .before .before .before .before .before .before .before .before .args .lens .now) (c .before .before .before .before .before .before .before .before .before .before .before .args .names .now)) (c .if6 .taken)
 
--- src/counts.rt:83:8
 ranges-in-requires : tie.Need-ranges-in-requires
 ranges-in-requires c κs = c .before .before .before .if3 .left
 
--- src/counts.rt:84:9
 returns-7 : tie.Need-returns-7
 returns-7 c = let e = c .before .ranges-in .ensures in fails-ranges _ (lent (c .before .before .before .before .before .before .before .before .before .before .before .before .before .args .count) (c .before .before .before .before .before .before .before .before .before .before .before .before .before .args .seqs .now) (c .before .before .before .before .before .before .before .before .before .before .before .before .before .args .counts .now) (c .before .before .before .before .before .before .before .before .before .before .before .before .before .args .ranges .now) (c .before .before .before .before .before .before .before .before .before .before .before .before .before .args .lens .now) (c .before .before .before .before .before .before .before .before .before .before .before .before .before .args .names .now)) (omega (arith, c .if7 .taken))
 
--- src/counts.rt:86:5
 some-long-requires : tie.Need-some-long-requires
 some-long-requires c κs = c .before .before .before .before .if4 .left
 
--- src/counts.rt:54:1
 returns-8 : tie.Need-returns-8
 returns-8 c = let e = c .before .before .ranges-in .ensures in c .some-long .ensures ∙ fails-long _ (lent (c .before .before .before .before .before .before .before .before .before .before .before .before .before .before .args .count) (c .before .before .before .before .before .before .before .before .before .before .before .before .before .before .args .seqs .now) (c .before .before .before .before .before .before .before .before .before .before .before .before .before .before .args .counts .now) (c .before .before .before .before .before .before .before .before .before .before .before .before .before .before .args .ranges .now) (c .before .before .before .before .before .before .before .before .before .before .before .before .before .before .args .lens .now) (c .before .before .before .before .before .before .before .before .before .before .before .before .before .before .args .names .now)) (c .before .before .before .before .before .before .before .before .if1 .left) (c .before .before .before .before .before .before .before .if2 .left) (c .before .before .before .before .before .before .if3 .left) (c .before .before .before .before .before .if4 .left) (c .before .before .before .before .if5 .left) (c .before .before .before .if6 .left) (omega arith) (omega (arith, c .before .if7 .left))
 

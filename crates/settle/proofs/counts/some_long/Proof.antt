@@ -1,13 +1,11 @@
-use Rattle.settle.proofs.counts.some_long.Statement.{statement}
-use Rattle.settle.proofs.counts.some_long.Tie as tie
-use Rattle.settle.proofs.counts.some_long.Reads as reads
-use Rattle.settle.proofs.counts.some_long.Lts as lts
-use Rattle.settle.proofs.counts.too_long.Reads as too-long-reads
-use native.Mathlib.Omega.{arith}
+-- `settle::counts::some_long` meets its contract: the first i lengths are names'.
 use Prim.Native.Nat.{_-_}
 use mathlib.Core.Path.{sym, _∙_}
+use native.Mathlib.Omega.{arith}
 use Rattle.settle.specs.Settle.{tooLong}
 use Rattle.settle.proofs.Refusing.{Looking, looking-begins, looking-found, looking-on, looking-ends}
+use Rattle.settle.proofs.counts.some_long.Statement.{statement}
+use Rattle.settle.proofs.counts.some_long.Tie as tie
 
 abbrev Inv-loop : tie.InvT-loop
 Inv-loop unnamed count lens i₀ i = Looking (tooLong unnamed) count lens i
@@ -15,35 +13,27 @@ Inv-loop unnamed count lens i₀ i = Looking (tooLong unnamed) count lens i
 abbrev μ-loop : tie.MeasureT-loop
 μ-loop unnamed count lens i₀ i = count - i
 
--- src/counts.rt:44:5
 loop-holds : tie.Need-loop-holds Inv-loop μ-loop
 loop-holds c = looking-begins _ _ _ (c .before .pre)
 
--- src/counts.rt:45:30
 shared-slice-read-too-long : tie.Need-shared-slice-read-too-long Inv-loop μ-loop
 shared-slice-read-too-long c = let g = c .before .before .loop .inv in let h = c .before .loop-test .taken in omega (arith, g .enough)
 
--- src/counts.rt:45:12
 too-long-requires : tie.Need-too-long-requires Inv-loop μ-loop
 too-long-requires c κs = tt
 
--- src/counts.rt:46:13
 returns : tie.Need-returns Inv-loop μ-loop
 returns c = sym (looking-found (c .before .before .before .before .loop .inv) (c .before .before .before .loop-test .taken) (sym (c .before .too-long .ensures) ∙ c .if1 .taken))
 
--- src/counts.rt:48:9
 add-i : tie.Need-add-i Inv-loop μ-loop
 add-i c = let g = c .before .before .before .before .loop .inv in let h = c .before .before .before .loop-test .taken in omega (arith, g .enough)
 
--- src/counts.rt:44:5
 loop-less : tie.Need-loop-less Inv-loop μ-loop
 loop-less c = omega arith
 
--- src/counts.rt:44:5
 loop-again : tie.Need-loop-again Inv-loop μ-loop
 loop-again c = looking-on (c .before .before .before .before .loop .inv) (c .before .before .before .loop-test .taken) (sym (c .before .too-long .ensures) ∙ c .if1 .left)
 
--- src/counts.rt:39:1
 returns-2 : tie.Need-returns-2 Inv-loop μ-loop
 returns-2 c = sym (looking-ends (c .before .loop .inv) (c .loop-test .left))
 

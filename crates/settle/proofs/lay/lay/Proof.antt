@@ -1,16 +1,11 @@
+-- `settle::lay::lay` meets its contract: the first k ranges are laid.
+use Prim.Native.Nat.{_-_}
+use native.Mathlib.Omega.{arith}
+use Rattle.numbers.specs.Pairs.{pairs}
+use Rattle.numbers.proofs.Pairs.{pair-in}
+use Rattle.settle.proofs.Laying.{Laying, laying-begins, laying-in, laying-start, laying-end, laying-on, laying-ends, laying-far}
 use Rattle.settle.proofs.lay.lay.Statement.{statement}
 use Rattle.settle.proofs.lay.lay.Tie as tie
-use Rattle.settle.proofs.lay.lay.Reads as reads
-use Rattle.settle.proofs.lay.lay.Lts as lts
-use Rattle.numbers.proofs.add_stop.Reads as add-stop-reads
-use Rattle.settle.proofs.pair.get.Reads as get-reads
-use Rattle.settle.proofs.pair.put.Reads as put-reads
-use native.Mathlib.Omega.{arith}
-use Prim.Native.Nat.{_-_}
-use Rattle.numbers.proofs.Pairs.{pair-in}
-use Rattle.settle.proofs.Laying.{Laying, laying-begins, laying-in, laying-start, laying-end, laying-on, laying-ends}
-use Rattle.numbers.specs.Pairs.{pairs}
-use Rattle.settle.proofs.Laying.{laying-far}
 
 abbrev Inv-loop : tie.InvT-loop
 Inv-loop ranges at count owner first n s₀ k₀ s k = Laying (pairs ranges) at count owner first n s₀ s k
@@ -18,63 +13,48 @@ Inv-loop ranges at count owner first n s₀ k₀ s k = Laying (pairs ranges) at 
 abbrev μ-loop : tie.MeasureT-loop
 μ-loop ranges at count owner first n s₀ k₀ s k = count - k
 
--- src/lay.rt:29:5
 loop-holds : tie.Need-loop-holds Inv-loop μ-loop
 loop-holds c = laying-begins _ _ _ (c .before .before .args .owner) _ _ _ (c .before .before .pre .0) (c .before .before .pre .1) (c .before .before .pre .2)
 
--- src/lay.rt:30:33
 add-get : tie.Need-add-get Inv-loop μ-loop
 add-get c = omega (arith, pair-in _ _ (laying-in (c .before .loop .inv) (c .loop-test .taken)))
 
--- src/lay.rt:30:13
 get-requires : tie.Need-get-requires Inv-loop μ-loop
 get-requires c κs = laying-in (c .before .loop .inv) (c .loop-test .taken)
 
--- src/lay.rt:31:16
 add-put : tie.Need-add-put Inv-loop μ-loop
 add-put c = omega (arith, pair-in _ _ (laying-start (c .before .before .before .loop .inv) (c .before .before .loop-test .taken)))
 
--- src/lay.rt:31:40
 add-put-2 : tie.Need-add-put-2 Inv-loop μ-loop
 add-put-2 c = omega (arith, pair-in _ _ (laying-start (c .before .before .before .loop .inv) (c .before .before .loop-test .taken)))
 
--- src/lay.rt:31:9
 put-requires : tie.Need-put-requires Inv-loop μ-loop
 put-requires c κs = laying-start (c .before .before .before .loop .inv) (c .before .before .loop-test .taken)
 
--- src/lay.rt:32:21
 add-put-3 : tie.Need-add-put-3 Inv-loop μ-loop
 add-put-3 c = omega (arith, pair-in _ _ (laying-far (c .before .before .before .before .before .before .before .loop .inv) (c .before .before .before .before .before .before .loop-test .taken)))
 
--- src/lay.rt:32:16
 add-put-4 : tie.Need-add-put-4 Inv-loop μ-loop
 add-put-4 c = omega (arith, pair-in _ _ (laying-far (c .before .before .before .before .before .before .before .loop .inv) (c .before .before .before .before .before .before .loop-test .taken)))
 
--- src/lay.rt:32:33
 add-stop-requires : tie.Need-add-stop-requires Inv-loop μ-loop
 add-stop-requires c κs = tt
 
--- src/lay.rt:32:9
 put-requires-2 : tie.Need-put-requires-2 Inv-loop μ-loop
 put-requires-2 c κs = laying-end (c .before .before .before .before .before .before .before .before .loop .inv) _ (c .before .before .before .before .before .before .before .loop-test .taken) (c .before .before .before .before .put .kept .0)
 
--- src/lay.rt:33:9
 add-k : tie.Need-add-k Inv-loop μ-loop
 add-k c = let g = c .before .before .before .before .before .before .before .before .before .before .before .loop .inv in let h = c .before .before .before .before .before .before .before .before .before .before .loop-test .taken in let p = pair-in _ _ (laying-in g h) in omega arith
 
--- src/lay.rt:29:5
 loop-less : tie.Need-loop-less Inv-loop μ-loop
 loop-less c = omega arith
 
--- src/lay.rt:29:5
 loop-again : tie.Need-loop-again Inv-loop μ-loop
 loop-again c = laying-on (c .before .before .before .before .before .before .before .before .before .before .before .loop .inv) _ _ _ _ _ (c .before .before .before .before .before .before .before .before .before .before .loop-test .taken) (c .before .before .before .before .before .before .before .before .before .get .ensures) (c .before .before .before .add-stop .ensures) (c .before .before .before .before .before .before .before .put .ensures) (c .before .before .before .before .before .before .before .put .kept .0) (c .before .before .put2 .ensures) (c .before .before .put2 .kept .0)
 
--- src/lay.rt:16:1
 same-length : tie.Need-same-length Inv-loop μ-loop
 same-length c = c .before .loop .inv .size
 
--- src/lay.rt:16:1
 returns : tie.Need-returns Inv-loop μ-loop
 returns c = laying-ends (c .before .loop .inv) (c .loop-test .left)
 

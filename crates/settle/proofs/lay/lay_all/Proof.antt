@@ -1,15 +1,11 @@
-use Rattle.settle.proofs.lay.lay_all.Statement.{statement}
-use Rattle.settle.proofs.lay.lay_all.Tie as tie
-use Rattle.settle.proofs.lay.lay_all.Reads as reads
-use Rattle.settle.proofs.lay.lay_all.Lts as lts
-use Rattle.settle.proofs.lay.lay.Reads as lay-reads
-use native.Mathlib.Omega.{arith}
+-- `settle::lay::lay_all` meets its contract: the ranges of the first i records are laid.
 use Prim.Native.Nat.{_-_}
+use native.Mathlib.Omega.{arith}
 use Rattle.numbers.specs.Pairs.{pairs}
 use Rattle.numbers.proofs.Pairs.{length-pairs}
-use Rattle.settle.proofs.Laying.{LayingAll, all-begins, all-inside, all-on, all-ends}
-use mathlib.Core.Path.{_∙_}
-use Rattle.settle.proofs.Laying.{all-size, all-space}
+use Rattle.settle.proofs.Laying.{LayingAll, all-begins, all-inside, all-on, all-ends, all-size, all-space}
+use Rattle.settle.proofs.lay.lay_all.Statement.{statement}
+use Rattle.settle.proofs.lay.lay_all.Tie as tie
 
 abbrev Inv-loop : tie.InvT-loop
 Inv-loop count counts ranges owner first n s₀ at₀ i₀ s at i = LayingAll count counts (pairs ranges) owner first n s₀ s at i
@@ -17,51 +13,39 @@ Inv-loop count counts ranges owner first n s₀ at₀ i₀ s at i = LayingAll co
 abbrev μ-loop : tie.MeasureT-loop
 μ-loop count counts ranges owner first n s₀ at₀ i₀ s at i = count - i
 
--- src/lay.rt:53:5
 loop-holds : tie.Need-loop-holds Inv-loop μ-loop
 loop-holds c = all-begins _ _ _ (c .before .before .before .args .owner) _ _ _ (c .before .before .before .pre .0) (c .before .before .before .pre .1) (c .before .before .before .pre .2) (c .before .before .before .pre .3) (c .before .before .before .pre .4)
 
--- src/lay.rt:54:19
 mul-own : tie.Need-mul-own Inv-loop μ-loop
 mul-own c = let g = c .before .loop .inv in let h = c .loop-test .taken in omega (arith, g .enough, g .few, g .upto)
 
--- src/lay.rt:54:19
 shared-slice-read-own : tie.Need-shared-slice-read-own Inv-loop μ-loop
 shared-slice-read-own c = let g = c .before .before .loop .inv in let h = c .before .loop-test .taken in omega (arith, g .enough, g .few, g .upto)
 
--- src/lay.rt:55:30
 add-lay : tie.Need-add-lay Inv-loop μ-loop
 add-lay c = let g = c .before .before .loop .inv in let h = c .before .loop-test .taken in omega (arith, g .enough, g .few, g .upto)
 
--- src/lay.rt:55:41
 add-lay-2 : tie.Need-add-lay-2 Inv-loop μ-loop
 add-lay-2 c = let g = c .before .before .loop .inv in let h = all-inside g (c .before .loop-test .taken) in let l = length-pairs (c .before .before .before .before .before .before .args .s .now) in omega (arith, g .room, g .space)
 
--- src/lay.rt:55:9
 lay-requires : tie.Need-lay-requires Inv-loop μ-loop
 lay-requires c κs = let g = c .before .before .before .loop .inv in let h = all-inside g (c .before .before .loop-test .taken) in (omega (arith, g .ranges), omega (arith, g .room), all-space g)
 
--- src/lay.rt:56:9
 add-at : tie.Need-add-at Inv-loop μ-loop
 add-at c = let g = c .before .before .before .before .before .before .loop .inv in let h = all-inside g (c .before .before .before .before .before .loop-test .taken) in let l = length-pairs (c .before .before .before .before .before .before .before .before .before .before .args .ranges .now) in omega (arith, g .ranges)
 
--- src/lay.rt:57:9
 add-i : tie.Need-add-i Inv-loop μ-loop
 add-i c = let g = c .before .before .before .before .before .before .loop .inv in let h = c .before .before .before .before .before .loop-test .taken in omega (arith, g .enough, g .few, g .upto)
 
--- src/lay.rt:53:5
 loop-less : tie.Need-loop-less Inv-loop μ-loop
 loop-less c = omega arith
 
--- src/lay.rt:53:5
 loop-again : tie.Need-loop-again Inv-loop μ-loop
 loop-again c = all-on (c .before .before .before .before .before .before .loop .inv) (c .before .before .before .before .before .loop-test .taken) _ (c .before .before .lay .ensures)
 
--- src/lay.rt:39:1
 same-length : tie.Need-same-length Inv-loop μ-loop
 same-length c = all-size (c .before .loop .inv)
 
--- src/lay.rt:39:1
 returns : tie.Need-returns Inv-loop μ-loop
 returns c = all-ends (c .before .loop .inv) (c .loop-test .left)
 

@@ -1,40 +1,31 @@
+-- `settle::marks::mark_of` meets its contract: a test as a byte is 1 or 0.
+use native.Mathlib.Omega.{arith}
 use borrow.Author.Needs.{needs}
+use Rattle.settle.proofs.Marking.{byte-small, mark-bytes}
 use Rattle.settle.proofs.marks.mark_of.Statement.{statement}
 use Rattle.settle.proofs.marks.mark_of.Tie as tie
-use Rattle.settle.proofs.marks.mark_of.Reads as reads
-use Rattle.settle.proofs.marks.mark_of.Lts as lts
-use native.Mathlib.Omega.{arith}
-use Rattle.settle.proofs.Marking.{byte-small, mark-bytes}
 
--- src/marks.rt:11:5
 cast-result : tie.Need-cast-result
 cast-result c = search needs
 
--- src/marks.rt:11:29
 cast-result-2 : tie.Need-cast-result-2
 cast-result-2 c = search needs
 
--- src/marks.rt:11:24
 mul-result : tie.Need-mul-result
 mul-result c = omega (arith, byte-small (c .args .overlapped), byte-small (c .args .renamed), byte-small (c .args .superseded))
 
--- src/marks.rt:11:5
 add-result : tie.Need-add-result
 add-result c = omega (arith, byte-small (c .args .overlapped), byte-small (c .args .renamed), byte-small (c .args .superseded))
 
--- src/marks.rt:11:51
 cast-result-3 : tie.Need-cast-result-3
 cast-result-3 c = search needs
 
--- src/marks.rt:11:46
 mul-result-2 : tie.Need-mul-result-2
 mul-result-2 c = omega (arith, byte-small (c .args .overlapped), byte-small (c .args .renamed), byte-small (c .args .superseded))
 
--- src/marks.rt:11:5
 add-result-2 : tie.Need-add-result-2
 add-result-2 c = omega (arith, byte-small (c .args .overlapped), byte-small (c .args .renamed), byte-small (c .args .superseded))
 
--- src/marks.rt:8:1
 returns : tie.Need-returns
 returns c = mark-bytes (c .args .overlapped) (c .args .renamed) (c .args .superseded)
 

@@ -1,40 +1,31 @@
-use Rattle.settle.proofs.pair.get.Statement.{statement}
-use Rattle.settle.proofs.pair.get.Tie as tie
-use Rattle.settle.proofs.pair.get.Reads as reads
-use Rattle.settle.proofs.pair.get.Lts as lts
+-- `settle::pair::get` meets its contract: both numbers of the pair are inside the slice.
 use mathlib.Core.Path.{sym}
 use native.Mathlib.Omega.{arith}
 use Rattle.numbers.proofs.Pairs.{pair-in, pair-at}
+use Rattle.settle.proofs.pair.get.Statement.{statement}
+use Rattle.settle.proofs.pair.get.Tie as tie
 
--- src/pair.rt:20:17
 mul-t3 : tie.Need-mul-t3
 mul-t3 c = omega (arith, pair-in _ _ (c .pre))
 
--- src/pair.rt:20:15
 mul-t4 : tie.Need-mul-t4
 mul-t4 c = omega (arith, pair-in _ _ (c .pre))
 
--- src/pair.rt:20:15
 shared-slice-read-t6 : tie.Need-shared-slice-read-t6
 shared-slice-read-t6 c = omega (arith, pair-in _ _ (c .before .pre))
 
--- src/pair.rt:21:18
 mul-t7 : tie.Need-mul-t7
 mul-t7 c = omega (arith, pair-in _ _ (c .before .pre))
 
--- src/pair.rt:21:18
 add-t8 : tie.Need-add-t8
 add-t8 c = omega (arith, pair-in _ _ (c .before .pre))
 
--- src/pair.rt:21:16
 mul-t9 : tie.Need-mul-t9
 mul-t9 c = omega (arith, pair-in _ _ (c .before .pre))
 
--- src/pair.rt:21:16
 shared-slice-read-t11 : tie.Need-shared-slice-read-t11
 shared-slice-read-t11 c = omega (arith, pair-in _ _ (c .before .before .pre))
 
--- src/pair.rt:15:1
 returns : tie.Need-returns
 returns c = sym (pair-at _ _ (pair-in _ _ (c .before .before .pre)))
 

@@ -1,45 +1,35 @@
-use borrow.Author.Needs.{needs}
-use Rattle.settle.proofs.pair.put.Statement.{statement}
-use Rattle.settle.proofs.pair.put.Tie as tie
-use Rattle.settle.proofs.pair.put.Reads as reads
-use Rattle.settle.proofs.pair.put.Lts as lts
+-- `settle::pair::put` meets its contract: two stores of numbers are one store of a pair.
 use native.Mathlib.Omega.{arith}
 use lib.ListN.{length-set}
+use borrow.Author.Needs.{needs}
 use Rattle.numbers.proofs.Pairs.{pair-in, pair-set}
+use Rattle.settle.proofs.pair.put.Statement.{statement}
+use Rattle.settle.proofs.pair.put.Tie as tie
 
--- src/pair.rt:13:7
 mul-s : tie.Need-mul-s
 mul-s c = omega (arith, pair-in _ _ (c .pre))
 
--- src/pair.rt:13:5
 mul-s-2 : tie.Need-mul-s-2
 mul-s-2 c = omega (arith, pair-in _ _ (c .pre))
 
--- src/pair.rt:13:5
 slice-write-s : tie.Need-slice-write-s
 slice-write-s c = omega (arith, pair-in _ _ (c .pre))
 
--- src/pair.rt:14:7
 mul-s-3 : tie.Need-mul-s-3
 mul-s-3 c = omega (arith, pair-in _ _ (c .pre))
 
--- src/pair.rt:14:7
 add-s : tie.Need-add-s
 add-s c = omega (arith, pair-in _ _ (c .pre))
 
--- src/pair.rt:14:5
 mul-s-4 : tie.Need-mul-s-4
 mul-s-4 c = omega (arith, pair-in _ _ (c .pre))
 
--- src/pair.rt:14:5
 slice-write-s-2 : tie.Need-slice-write-s-2
 slice-write-s-2 c = simp length-set (pair-in _ _ (c .pre))
 
--- src/pair.rt:9:1
 same-length : tie.Need-same-length
 same-length c = search needs
 
--- src/pair.rt:9:1
 returns : tie.Need-returns
 returns c = pair-set _ _ _ _ (pair-in _ _ (c .pre))
 

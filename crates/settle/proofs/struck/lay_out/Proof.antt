@@ -1,47 +1,34 @@
+-- `settle::struck::lay_out` meets its contract: the usable ranges are laid, then the unavailable ones behind them.
+use mathlib.Core.Path.{_∙_}
 use borrow.Author.Needs.{needs}
+use Rattle.settle.proofs.Ordering.{lay-first, lay-second, both-ordered}
 use Rattle.settle.proofs.struck.lay_out.Statement.{statement}
 use Rattle.settle.proofs.struck.lay_out.Tie as tie
-use Rattle.settle.proofs.struck.lay_out.Reads as reads
-use Rattle.settle.proofs.struck.lay_out.Lts as lts
-use Rattle.settle.proofs.lay.lay_all.Reads as lay-all-reads
-use Rattle.sort.proofs.sort_pairs.Reads as sort-pairs-reads
-use mathlib.Core.Path.{_∙_}
-use lib.ListN.{length}
-use Rattle.settle.proofs.Ordering.{lay-first, lay-second, both-ordered}
 
--- src/struck.rt:35:5
 lay-all-requires : tie.Need-lay-all-requires
 lay-all-requires c κs = lay-first (c .before .before .before .before .before .before .args .usable) (c .before .before .before .before .before .before .args .unavailable) _ _ (c .before .before .before .before .before .before .args .counts .now) (c .before .before .before .before .before .before .args .ranges .now) (c .before .before .before .before .before .before .args .own-counts .now) (c .before .before .before .before .before .before .args .own-ranges .now) (c .before .before .before .before .before .before .pre .0 .0) (c .before .before .before .before .before .before .pre .0 .1) (c .before .before .before .before .before .before .pre .1 .0) (c .before .before .before .before .before .before .pre .1 .1) _ (c .before .before .before .before .before .before .pre .1 .2)
 
--- src/struck.rt:36:5
 lay-all-requires-2 : tie.Need-lay-all-requires-2
 lay-all-requires-2 c κs = lay-second (c .before .before .before .before .before .before .before .before .before .before .args .usable) (c .before .before .before .before .before .before .before .before .before .before .args .unavailable) _ _ (c .before .before .before .before .before .before .before .before .before .before .args .counts .now) (c .before .before .before .before .before .before .before .before .before .before .args .ranges .now) (c .before .before .before .before .before .before .before .before .before .before .args .own-counts .now) (c .before .before .before .before .before .before .before .before .before .before .args .own-ranges .now) (c .before .before .before .before .before .before .before .before .before .before .pre .0 .0) (c .before .before .before .before .before .before .before .before .before .before .pre .0 .1) (c .before .before .before .before .before .before .before .before .before .before .pre .1 .0) (c .before .before .before .before .before .before .before .before .before .before .pre .1 .1) _ (c .before .before .before .lay-all .kept .1 .1 .1 .1 .1 .1 .0 ∙ c .before .before .before .before .before .before .before .before .before .before .pre .1 .2)
 
--- src/struck.rt:37:40
 mul-sort-pairs : tie.Need-mul-sort-pairs
 mul-sort-pairs c = search needs
 
--- src/struck.rt:37:30
 sub-sort-pairs : tie.Need-sub-sort-pairs
 sub-sort-pairs c = search needs
 
--- src/struck.rt:37:30
 part-sort-pairs-start : tie.Need-part-sort-pairs-start
 part-sort-pairs-start c = search needs
 
--- src/struck.rt:37:30
 part-sort-pairs-end : tie.Need-part-sort-pairs-end
 part-sort-pairs-end c = search needs
 
--- src/struck.rt:37:9
 sort-pairs-requires : tie.Need-sort-pairs-requires
 sort-pairs-requires c κs = search needs
 
--- src/struck.rt:20:1
 same-length : tie.Need-same-length
 same-length c = search needs
 
--- src/struck.rt:20:1
 returns : tie.Need-returns
 returns c = λ seqs lens names own-seqs own-lens own-names.
     both-ordered (c .before .before .before .before .before .before .before .before .before .before .before .before .before .before .before .before .before .args .usable) (c .before .before .before .before .before .before .before .before .before .before .before .before .before .before .before .before .before .args .unavailable) _ _ (c .before .before .before .before .before .before .before .before .before .before .before .before .before .before .before .before .before .args .counts .now) (c .before .before .before .before .before .before .before .before .before .before .before .before .before .before .before .before .before .args .ranges .now) (c .before .before .before .before .before .before .before .before .before .before .before .before .before .before .before .before .before .args .own-counts .now) (c .before .before .before .before .before .before .before .before .before .before .before .before .before .before .before .before .before .args .own-ranges .now) (c .before .before .before .before .before .before .before .before .before .before .before .before .before .before .before .before .before .pre .0 .0) (c .before .before .before .before .before .before .before .before .before .before .before .before .before .before .before .before .before .pre .0 .1) (c .before .before .before .before .before .before .before .before .before .before .before .before .before .before .before .before .before .pre .1 .0) (c .before .before .before .before .before .before .before .before .before .before .before .before .before .before .before .before .before .pre .1 .1) seqs lens names own-seqs own-lens own-names _ _ _ _ _ (c .before .before .before .before .before .before .before .before .before .before .before .before .before .before .before .before .before .pre .1 .2) (c .before .before .before .before .before .before .before .before .before .before .lay-all .ensures seqs lens names) (c .before .before .before .before .before .before .lay-all2 .ensures own-seqs own-lens own-names) (c .before .before .sort-pairs .ensures) (c .before .before .sort-pairs .kept .0)

@@ -1,28 +1,21 @@
+-- `settle::struck::sweep_both` meets its contract: one pass after the other.
 use borrow.Author.Needs.{needs}
+use Rattle.settle.proofs.Sweeping.{swept-both}
 use Rattle.settle.proofs.struck.sweep_both.Statement.{statement}
 use Rattle.settle.proofs.struck.sweep_both.Tie as tie
-use Rattle.settle.proofs.struck.sweep_both.Reads as reads
-use Rattle.settle.proofs.struck.sweep_both.Lts as lts
-use Rattle.settle.proofs.sweep.sweep.Reads as sweep-reads
-use Rattle.settle.proofs.Sweeping.{swept-both}
 
--- src/struck.rt:52:5
 sweep-requires : tie.Need-sweep-requires
 sweep-requires c κs = search needs
 
--- src/struck.rt:53:5
 sweep-requires-2 : tie.Need-sweep-requires-2
 sweep-requires-2 c κs = search needs
 
--- src/struck.rt:41:1
 same-length : tie.Need-same-length
 same-length c = search needs
 
--- src/struck.rt:41:1
 same-length-2 : tie.Need-same-length-2
 same-length-2 c = search needs
 
--- src/struck.rt:41:1
 returns : tie.Need-returns
 returns c = swept-both (c .before .before .before .before .before .before .before .before .before .before .before .sweep .ensures) (c .before .before .before .before .sweep2 .ensures)
 

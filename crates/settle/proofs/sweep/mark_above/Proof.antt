@@ -1,32 +1,24 @@
+-- `settle::sweep::mark_above` meets its contract: a mark that is set stays.
 use borrow.Author.Needs.{needs}
+use Rattle.settle.proofs.Sweeping.{mark-new, mark-kept}
 use Rattle.settle.proofs.sweep.mark_above.Statement.{statement}
 use Rattle.settle.proofs.sweep.mark_above.Tie as tie
-use Rattle.settle.proofs.sweep.mark_above.Reads as reads
-use Rattle.settle.proofs.sweep.mark_above.Lts as lts
-use Rattle.settle.proofs.table.above.Reads as above-reads
-use Rattle.settle.proofs.Sweeping.{mark-new, mark-kept}
 
--- src/sweep.rt:70:9
 slice-read-if1 : tie.Need-slice-read-if1
 slice-read-if1 c = search needs
 
--- src/sweep.rt:71:20
 above-requires : tie.Need-above-requires
 above-requires c κs = search needs
 
--- src/sweep.rt:71:9
 slice-write-marks : tie.Need-slice-write-marks
 slice-write-marks c = search needs
 
--- src/sweep.rt:66:1
 same-length : tie.Need-same-length
 same-length c = search needs
 
--- src/sweep.rt:66:1
 returns : tie.Need-returns
 returns c = mark-new (c .before .before .before .before .before .args .marks .now) (c .before .before .before .before .before .args .i) _ _ (c .before .if1 .taken) (c .above .ensures)
 
--- src/sweep.rt:66:1
 returns-2 : tie.Need-returns-2
 returns-2 c = mark-kept (c .before .before .before .before .args .marks .now) (c .before .before .before .before .args .i) _ (c .if1 .left)
 

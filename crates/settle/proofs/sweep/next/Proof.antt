@@ -1,43 +1,33 @@
+-- `settle::sweep::next` meets its contract: on the way back the last range comes first.
+use native.Mathlib.Omega.{arith}
 use borrow.Author.Needs.{needs}
+use Rattle.numbers.specs.Pairs.{pairs}
+use Rattle.numbers.proofs.Pairs.{length-pairs}
+use Rattle.settle.proofs.Sweeping.{next-here, next-there, next-forth, next-back}
 use Rattle.settle.proofs.sweep.next.Statement.{statement}
 use Rattle.settle.proofs.sweep.next.Tie as tie
-use Rattle.settle.proofs.sweep.next.Reads as reads
-use Rattle.settle.proofs.sweep.next.Lts as lts
-use Rattle.settle.proofs.sweep.read.Reads as read-reads
-use native.Mathlib.Omega.{arith}
-use Rattle.numbers.specs.Pairs.{pairs}
-use Rattle.settle.proofs.Sweeping.{next-here, next-there, next-forth, next-back}
-use Rattle.numbers.proofs.Pairs.{length-pairs}
 
--- src/sweep.rt:45:36
 sub-read : tie.Need-sub-read
 sub-read c = let l = length-pairs (c .before .before .before .args .order .now) in let h = c .before .before .before .pre .0 in omega arith
 
--- src/sweep.rt:45:36
 sub-read-2 : tie.Need-sub-read-2
 sub-read-2 c = let l = length-pairs (c .before .before .before .args .order .now) in let h = c .before .before .before .pre .0 in omega arith
 
--- src/sweep.rt:45:13
 read-requires : tie.Need-read-requires
 read-requires c κs = next-there (c .before .before .before .args .order .now) (pairs (c .before .before .before .args .facts .now)) _ (c .before .before .before .args .back) (c .before .before .before .pre .0) (c .before .before .before .pre .1)
 
--- src/sweep.rt:47:20
 sub-t11 : tie.Need-sub-t11
 sub-t11 c = search needs
 
--- src/sweep.rt:48:18
 sub-t12 : tie.Need-sub-t12
 sub-t12 c = search needs
 
--- src/sweep.rt:46:9
 returns : tie.Need-returns
 returns c = next-back (c .before .before .before .before .before .before .args .order .now) (pairs (c .before .before .before .before .before .before .args .facts .now)) _ _ (c .before .before .before .before .before .before .pre .0) (c .before .before .before .before .before .before .pre .1) (c .before .before .before .if1 .taken) _ (c .before .before .read .ensures)
 
--- src/sweep.rt:52:5
 read-requires-2 : tie.Need-read-requires-2
 read-requires-2 c κs = next-here (c .before .before .before .args .order .now) (pairs (c .before .before .before .args .facts .now)) _ (c .before .before .before .args .back) (c .before .before .before .pre .0) (c .before .before .before .pre .1)
 
--- src/sweep.rt:40:1
 returns-2 : tie.Need-returns-2
 returns-2 c = next-forth (c .before .before .before .before .args .order .now) (pairs (c .before .before .before .before .args .facts .now)) _ _ (c .before .before .before .before .pre .0) (c .before .before .before .before .pre .1) (c .before .if1 .left) _ (c .read2 .ensures)
 
