@@ -1,5 +1,5 @@
 -- Names: their tags, their comparison, and which of the records are renamed.
-use Prim.Native.Nat.{ℕ, zero, suc, _+_, _-_, _*_, _%_, _^_, _≤_, _<_}
+use Prim.Native.Nat.{ℕ, zero, suc, _+_, _-_, _*_, _%_, _≤_, _<_}
 use mathlib.Core.Bool.{Bool, true, false, not, _&&_, and-false, or-true as or-right}
 use mathlib.Core.List.{List, [], _∷_}
 use mathlib.Core.Logic.{⊎-elim}
@@ -11,25 +11,26 @@ use lib.ListN.{length, getD, take, drop, set, length-set, length-take, drop-of-l
 use lib.Seq.{drop-cons, getD-set-same, getD-set-other}
 use borrow.Author.Count.{below-more}
 use borrow.Author.Tests.{eqb-true, eq-eqb, ne-eqb, le-leb, lt-leb}
-use Rattle.settle.specs.Naming.{nameAt, tagFrom, tagOf, Tagged, Listed, rivals, anyBelow, outdone}
+use Rattle.settle.specs.Naming.{nameAt, tagFrom, tagOf, Tagged, Listed, Alone, rivals, anyBelow, outdone}
 use Rattle.settle.specs.Settle.{same}
 use Rattle.numbers.proofs.Cases.{cases, by-eq, clash, and-true, or-true}
 
 -- ---- the tag of a name, byte by byte
 
 pub record Mixed (name : List ℕ) (i tag : ℕ) : Type 0 where
+  pub small : tag < 2147483647
   pub inside : i ≤ length name
   pub rest : tagFrom tag (drop i name) ≡ tagOf name
 
 pub mix-begins : (name : List ℕ) → Mixed name 0 0
-mix-begins name = record { inside = omega arith; rest = refl }
+mix-begins name = record { small = omega arith; inside = omega arith; rest = refl }
 
 module _ {name : List ℕ} {i tag : ℕ} (g : Mixed name i tag) where
-  pub mix-on : i < length name → Mixed name (i + 1) (tag % 2 ^ 58 * 33 + getD name i 0)
+  pub mix-on : i < length name → Mixed name (i + 1) ((tag * 33 + getD name i 0) % 2147483647)
   unfolding tagFrom
   mix-on h =
       let e : drop i name ≡ getD name i 0 ∷ drop (i + 1) name = rw (add-one, drop-cons name i 0) in
-      record { inside = omega arith; rest = rw e at (g .rest) }
+      record { small = omega arith; inside = omega arith; rest = rw e at (g .rest) }
 
   pub mix-ends : length name ≤ i → tag ≡ tagOf name
   unfolding tagFrom
@@ -153,6 +154,46 @@ unfolding anyBelow
 below-true f zero e = clash {b = false} e refl
 below-true f (suc n) e =
     ⊎-elim (λ a. let r = below-true f n a in let h = r .1 in (r .0, omega arith, r .2)) (λ b. (n, omega arith, b)) (or-true (anyBelow f n) (f n) e)
+
+-- ---- tags counted
+
+pub record Counting (tag skip count : ℕ) (tags : List ℕ) (n j : ℕ) : Type 0 where
+  pub enough : count ≤ length tags
+  pub upto : j ≤ count
+  pub few : n ≤ j
+  pub none : n ≡ 0 → (k : ℕ) → k < j → (k ≡ skip → ⊥) → getD tags k 0 ≡ tag → ⊥
+
+pub counting-begins : (tag skip count : ℕ) (tags : List ℕ) → count ≤ length tags → Counting tag skip count tags 0 0
+counting-begins tag skip count tags h = record { enough = h; upto = omega arith; few = omega arith; none = λ e k i. absurd (omega arith) }
+
+module _ {tag skip count : ℕ} {tags : List ℕ} {n j : ℕ} (g : Counting tag skip count tags n j) where
+  pub counting-on : j < count → ((j ≡ skip → ⊥) → getD tags j 0 ≡ tag → ⊥) → Counting tag skip count tags n (j + 1)
+  counting-on h d =
+      record {
+        enough = g .enough;
+        upto = omega arith;
+        few = omega (arith, g .few);
+        none = λ e k i. by-eq k j (λ q s t. d (λ r. s (q ∙ r)) (sym (ap (λ (m : ℕ). getD tags m 0) q) ∙ t)) (λ q. g .none e k (omega (arith, q)));
+      }
+
+  pub counting-one : j < count → Counting tag skip count tags (n + 1) (j + 1)
+  counting-one h = record { enough = g .enough; upto = omega arith; few = omega (arith, g .few); none = λ e k i. absurd (omega arith) }
+
+  pub counting-ends : count ≤ j → Alone tag skip count tags n
+  counting-ends h = record { none = λ e k i. g .none e k (omega arith) }
+
+-- no other record has the tag, so none is one
+pub alone-none : (seqs lens names : List ℕ) (skip seq : ℕ) (name : List ℕ) (tag count n : ℕ) (tags : List ℕ) → Listed count seqs lens names tags → length name ≤ 24 → tag ≡ tagOf name
+    → Alone tag skip count tags n → n ≡ 0 → anyBelow (rivals seqs lens names skip seq name) count ≡ false
+alone-none seqs lens names skip seq name tag count n tags g s t a z =
+    cases (anyBelow (rivals seqs lens names skip seq name) count)
+    (λ e.
+    let r = below-true (rivals seqs lens names skip seq name) count e in
+    absurd (a .none z (r .0) (r .1) (λ q. clash (r .2) (rival-itself seqs lens names skip seq name (r .0) q))
+    (rival-tag seqs lens names skip seq name (r .0) count tags g (r .1) s (r .2) ∙ sym t)))
+    (λ e. e)
+
+-- ---- the records one by one
 
 -- no record in front of j is one
 pub record Sought (seqs lens names : List ℕ) (skip seq : ℕ) (name : List ℕ) (count j : ℕ) : Type 0 where

@@ -1,5 +1,5 @@
 -- How `settle` finds a record of the same name; it promises nothing by these.
-use Prim.Native.Nat.{ℕ, zero, suc, _+_, _*_, _%_, _^_, _≤_, _<_}
+use Prim.Native.Nat.{ℕ, zero, suc, _+_, _*_, _%_, _≤_, _<_}
 use mathlib.Core.Bool.{Bool, false, not, _&&_, _||_}
 use mathlib.Core.List.{List, [], _∷_}
 use mathlib.Core.Path.{_≡_}
@@ -14,7 +14,7 @@ nameAt lens names j = take (getD lens j 0) (drop (24 * j) names)
 -- A number made of a name's bytes: names with different tags are different.
 unfoldable pub tagFrom : ℕ → List ℕ → ℕ
 tagFrom tag [] = tag
-tagFrom tag (b ∷ bs) = tagFrom (tag % 2 ^ 58 * 33 + b) bs
+tagFrom tag (b ∷ bs) = tagFrom ((tag * 33 + b) % 2147483647) bs
 
 abbrev pub tagOf : List ℕ → ℕ
 tagOf name = tagFrom 0 name
@@ -30,6 +30,10 @@ pub record Listed (count : ℕ) (seqs lens names tags : List ℕ) : Type 0 where
   pub names-in : 24 * count ≤ length names
   pub tags-in : count ≤ length tags
   pub tagged : Tagged count lens names tags
+
+-- Where n is 0, none of the first count tags is this one, but perhaps that at skip.
+pub record Alone (tag skip count : ℕ) (tags : List ℕ) (n : ℕ) : Type 0 where
+  pub none : n ≡ 0 → (j : ℕ) → j < count → (j ≡ skip → ⊥) → getD tags j 0 ≡ tag → ⊥
 
 -- The record j is not the record skip, has the name, and no lower number than seq.
 unfoldable pub rivals : (seqs lens names : List ℕ) → (skip seq : ℕ) → List ℕ → ℕ → Bool

@@ -4,7 +4,7 @@ ghost use mathlib.Core.Path.{_≡_};
 ghost use Prim.Native.Nat.{_+_, _*_, _<_, _≤_};
 ghost use lib.ListN.{length, getD};
 ghost use Rattle.settle.specs.Settle.{same};
-ghost use Rattle.settle.specs.Naming.{tagOf, Tagged, Listed, rivals, anyBelow, outdone};
+ghost use Rattle.settle.specs.Naming.{Alone, tagOf, Tagged, Listed, rivals, anyBelow, outdone};
 
 // A number made of a name's bytes.
 fn tag_of(name: &[u8]) -> u64
@@ -13,7 +13,7 @@ fn tag_of(name: &[u8]) -> u64
     let mut tag: u64 = 0;
     let mut i = 0;
     while i < name.len() {
-        tag = tag % 0x0400_0000_0000_0000 * 33 + name[i] as u64;
+        tag = (tag * 33 + name[i] as u64) % 0x7fff_ffff;
         i += 1;
     }
     tag
@@ -75,6 +75,25 @@ fn rival(
     same_bytes(&names[24 * j..24 * j + len], name)
 }
 
+// How many of the first count tags, but the one at skip, are this one. Nothing but the count depends
+// on a test, so that the compiler can compare several tags at a time.
+fn others(tag: u64, skip: usize, count: usize, tags: &[u64]) -> usize
+    requires { ⌜ count ≤ length (now tags) ⌝ }
+    ensures { λ r. ⌜ Alone tag skip count (now (tags .entry)) r ⌝ }
+{
+    let mut n = 0;
+    let mut j = 0;
+    while j < count {
+        if tags[j] == tag {
+            if j != skip {
+                n += 1;
+            }
+        }
+        j += 1;
+    }
+    n
+}
+
 // Whether a record other than skip has the name, of this tag, and no lower number.
 fn search(
     name: &[u8],
@@ -90,6 +109,9 @@ fn search(
     requires { ⌜ Listed count (now seqs) (now lens) (now names) (now tags) × (length (now name) ≤ 24) × (tag ≡ tagOf (now name)) ⌝ }
     ensures { λ r. ⌜ r ≡ anyBelow (rivals (now (seqs .entry)) (now (lens .entry)) (now (names .entry)) skip seq (now (name .entry))) count ⌝ }
 {
+    if others(tag, skip, count, tags) == 0 {
+        return false;
+    }
     let mut j = 0;
     while j < count {
         if tags[j] == tag {

@@ -1,9 +1,9 @@
--- `settle::names::search` meets its contract. The invariant is `Sought`.
+-- `settle::names::search` meets its contract: where no other tag is alike there is nothing to search; else no record in front of j is a rival.
 use Prim.Native.Nat.{_-_}
 use mathlib.Core.Logic.{⊎-elim}
 use mathlib.Core.Path.{sym, _∙_}
 use native.Mathlib.Omega.{arith}
-use Rattle.settle.proofs.Naming.{Sought, seek-begins, seek-on, seek-past, seek-found, seek-ends}
+use Rattle.settle.proofs.Naming.{alone-none, Sought, seek-begins, seek-on, seek-past, seek-found, seek-ends}
 use Rattle.settle.proofs.names.search.Statement.{statement}
 use Rattle.settle.proofs.names.search.Tie as tie
 
@@ -13,20 +13,26 @@ Inv-loop name tag seq skip count seqs lens names tags j₀ j = Sought seqs lens 
 abbrev μ-loop : tie.MeasureT-loop
 μ-loop name tag seq skip count seqs lens names tags j₀ j = count - j
 
+others-requires : tie.Need-others-requires Inv-loop μ-loop
+others-requires c κs = c .before .before .before .before .before .pre .0 .tags-in
+
+returns : tie.Need-returns Inv-loop μ-loop
+returns c = sym (alone-none _ _ _ _ _ _ _ _ _ _ (c .before .before .before .before .before .before .before .pre .0) (c .before .before .before .before .before .before .before .pre .1) (c .before .before .before .before .before .before .before .pre .2) (c .before .others .ensures) (c .if1 .taken))
+
 loop-holds : tie.Need-loop-holds Inv-loop μ-loop
 loop-holds c = seek-begins _ _ _ _ _ _ _
 
-mul-if1 : tie.Need-mul-if1 Inv-loop μ-loop
-mul-if1 c = omega arith
+mul-if2 : tie.Need-mul-if2 Inv-loop μ-loop
+mul-if2 c = omega arith
 
-shared-slice-read-if1 : tie.Need-shared-slice-read-if1 Inv-loop μ-loop
-shared-slice-read-if1 c = omega arith
+shared-slice-read-if2 : tie.Need-shared-slice-read-if2 Inv-loop μ-loop
+shared-slice-read-if2 c = omega arith
 
 rival-requires : tie.Need-rival-requires Inv-loop μ-loop
 rival-requires c κs = omega arith
 
-returns : tie.Need-returns Inv-loop μ-loop
-returns c = sym (seek-found (c .before .before .before .before .before .loop .inv) (c .before .before .before .before .loop-test .taken) (sym (c .before .rival .ensures) ∙ c .if2 .taken))
+returns-2 : tie.Need-returns-2 Inv-loop μ-loop
+returns-2 c = sym (seek-found (c .before .before .before .before .before .loop .inv) (c .before .before .before .before .loop-test .taken) (sym (c .before .rival .ensures) ∙ c .if3 .taken))
 
 add-j : tie.Need-add-j Inv-loop μ-loop
 add-j c = omega arith
@@ -35,10 +41,10 @@ loop-less : tie.Need-loop-less Inv-loop μ-loop
 loop-less c = omega arith
 
 loop-again : tie.Need-loop-again Inv-loop μ-loop
-loop-again c = ⊎-elim (λ u. seek-on (c .before .before .before .loop .inv) (c .before .before .loop-test .taken) (sym (u .1 .ensures) ∙ u .2 .left)) (λ u. seek-past (c .before .before .before .loop .inv) (c .before .before .loop-test .taken) _ (c .before .before .before .before .before .before .before .before .before .pre .0) (c .before .before .before .before .before .before .before .before .before .pre .1) (λ e. u .left (e ∙ sym (c .before .before .before .before .before .before .before .before .before .pre .2)))) (c .if1 .came)
+loop-again c = ⊎-elim (λ u. seek-on (c .before .before .before .loop .inv) (c .before .before .loop-test .taken) (sym (u .1 .ensures) ∙ u .2 .left)) (λ u. seek-past (c .before .before .before .loop .inv) (c .before .before .loop-test .taken) _ (c .before .before .before .before .before .before .before .before .before .before .before .pre .0) (c .before .before .before .before .before .before .before .before .before .before .before .pre .1) (λ e. u .left (e ∙ sym (c .before .before .before .before .before .before .before .before .before .before .before .pre .2)))) (c .if2 .came)
 
-returns-2 : tie.Need-returns-2 Inv-loop μ-loop
-returns-2 c = sym (seek-ends (c .before .loop .inv) (c .loop-test .left))
+returns-3 : tie.Need-returns-3 Inv-loop μ-loop
+returns-3 c = sym (seek-ends (c .before .loop .inv) (c .loop-test .left))
 
 pub search-spec : {M : Type 1} → statement M
 search-spec =
@@ -46,12 +52,14 @@ search-spec =
     (tie.spec
     Inv-loop
     μ-loop
-    loop-holds
-    mul-if1
-    shared-slice-read-if1
-    rival-requires
+    others-requires
     returns
+    loop-holds
+    mul-if2
+    shared-slice-read-if2
+    rival-requires
+    returns-2
     add-j
     loop-less
     loop-again
-    returns-2)
+    returns-3)

@@ -1,4 +1,4 @@
--- `settle::names::tag_of` meets its contract. The invariant is `Mixed`.
+-- `settle::names::tag_of` meets its contract: the bytes in front of i are mixed in.
 use Prim.Native.Nat.{_-_}
 use native.Mathlib.Omega.{arith}
 use lib.ListN.{length}
@@ -16,7 +16,7 @@ loop-holds : tie.Need-loop-holds Inv-loop μ-loop
 loop-holds c = mix-begins _
 
 mul-tag : tie.Need-mul-tag Inv-loop μ-loop
-mul-tag c = omega arith
+mul-tag c = let g = c .before .loop .inv in omega (arith, g .small)
 
 shared-slice-read-tag : tie.Need-shared-slice-read-tag Inv-loop μ-loop
 shared-slice-read-tag c = omega arith
@@ -25,7 +25,7 @@ cast-tag : tie.Need-cast-tag Inv-loop μ-loop
 cast-tag c = omega (arith, c .shared-slice-known .given (c .before .before .loop .i))
 
 add-tag : tie.Need-add-tag Inv-loop μ-loop
-add-tag c = omega (arith, c .shared-slice-known .given (c .before .before .loop .i))
+add-tag c = let g = c .before .before .loop .inv in omega (arith, g .small, c .shared-slice-known .given (c .before .before .loop .i))
 
 add-i : tie.Need-add-i Inv-loop μ-loop
 add-i c = omega arith
