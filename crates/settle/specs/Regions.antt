@@ -27,7 +27,8 @@ pub record Region : Type 0 where
   pub named : Bool
   pub name : List ℕ
 
--- The length 255 says that there is no name.
+-- The first n records of the lists: the first one takes the first of each list, as many ranges as its count says and the first 24
+-- bytes, the others what stands behind. The length 255 says that there is no name.
 unfoldable pub regions : ℕ → (seqs counts : List ℕ) → List Range → (lens names : List ℕ) → List Region
 regions zero seqs counts rs lens names = []
 regions (suc n) seqs counts rs lens names =
