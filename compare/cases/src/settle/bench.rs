@@ -2,7 +2,7 @@
 
 use super::case::{Case, Kind, Lists, NAME, Record};
 use super::draw::Name;
-use super::shapes::{shape, shuffle};
+use super::shapes::{SHAPES, shape, shuffle};
 use super::sides::{MOST_RANGES, MOST_RECORDS, records};
 use crate::random::Random;
 use crate::table::{median, row};
@@ -85,15 +85,10 @@ fn time(operation: &str, lists: &Lists) {
 pub fn bench(random: &mut Random) {
     let most = MOST_RECORDS;
     let mut rising: Vec<u64> = (1..=2 * most as u64).collect();
-    for name in [
-        "disjoint",
-        "each meets about 1",
-        "each meets about 64",
-        "all nested",
-        "all identical",
-        "staircase",
-        "mass expiry",
-    ] {
+    let timed = SHAPES
+        .into_iter()
+        .filter(|name| !name.starts_with("touching"));
+    for name in timed {
         let ranges = shape(name, MOST_RANGES, random);
         let lists = lists(most, most, ranges, &mut rising, typical, random);
         time(&format!("settle 65,536 ranges, {name}"), &lists);
