@@ -198,7 +198,7 @@ pub record Sweeping (l : List Item) (u : ℕ) (ranks : List ℕ) (over₀ under�
   pub own-reach : (k v : ℕ) → reach own k v ≡ any (λ (x : Item). strikes (leb u (x .owner)) (getD ranks (x .owner) 0) k v x) (take t l)
   pub marks : Swept (take t l) u ranks over₀ over under₀ under
 
-pub sweep-begins : (l : List Item) (u : ℕ) (ranks : List ℕ) (over under : List Bool) → Sweeping l u ranks over under (replicate 4096 0) (replicate 4096 0) over under 0
+pub sweep-begins : (l : List Item) (u : ℕ) (ranks : List ℕ) (over under : List Bool) → Sweeping l u ranks over under (replicate 6144 0) (replicate 6144 0) over under 0
 unfolding any behind
 sweep-begins l u ranks over under =
     record {

@@ -1,5 +1,5 @@
 -- What the steps of `settle` do; it promises nothing by these.
-use Prim.Native.Nat.{ℕ, zero, suc, _+_, _*_, _≤_, _<_, max}
+use Prim.Native.Nat.{ℕ, zero, suc, _+_, _*_, _/_, _≤_, _<_}
 use mathlib.Core.Bool.{Bool, false, _&&_, _||_}
 use mathlib.Core.List.{List, [], _∷_, _++_}
 use mathlib.Core.Logic.{_⊎_}
@@ -12,14 +12,16 @@ use Rattle.numbers.specs.Sums.{sum}
 use Rattle.settle.specs.Regions.{Lent, Region, regionsOf}
 use Rattle.settle.specs.Settle.{rangesIn, overlapped, superseded}
 
--- A tree of greatest numbers: the leaf of rank k stands at 2,048 + k, and the node n, from 1, above the nodes 2n and 2n + 1.
+-- A tree of greatest numbers: the leaf of rank k stands at 4,096 + k, and the node n, from 1, above the nodes 16n to
+-- 16n + 15. None of them holds more than n, and one holds as much. What stands past the end of t counts as 0.
 pub record Tree (t : List ℕ) : Type 0 where
-  pub size : length t ≡ 4096
-  pub above : (n : ℕ) → 1 ≤ n → n < 2048 → getD t n 0 ≡ max (getD t (2 * n) 0) (getD t (2 * n + 1) 0)
+  pub size : length t ≡ 6144
+  pub under : (c : ℕ) → 16 ≤ c → getD t c 0 ≤ getD t (c / 16) 0
+  pub some : (n : ℕ) → 1 ≤ n → n < 4096 → (c : ℕ) × (c / 16 ≡ n) × (getD t n 0 ≤ getD t c 0)
 
 -- Some leaf from rank k on holds more than x.
 unfoldable pub reach : List ℕ → ℕ → ℕ → Bool
-reach t k x = any (ltb x) (drop (2048 + k) t)
+reach t k x = any (ltb x) (drop (4096 + k) t)
 
 -- t after value was put in at a rank.
 pub record Raised (t₀ t : List ℕ) (rank value : ℕ) : Type 0 where

@@ -116,8 +116,8 @@ pub(crate) fn sweep(
     ensures { λ _. ⌜ Swept (walk back (itemsOf (pairs (now (order .entry))) (pairs (now (facts .entry))))) usable (now (ranks .entry)) (now (over .entry)) (now (over .exit)) (now (under .entry)) (now (under .exit)) ⌝ }
 {
     let n = order.len() / 2;
-    let mut held = [0u64; 4096];
-    let mut own = [0u64; 4096];
+    let mut held = [0u64; 6144];
+    let mut own = [0u64; 6144];
     let mut t = 0;
     while t < n {
         let x = next(order, facts, t, back);

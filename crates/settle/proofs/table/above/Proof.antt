@@ -1,9 +1,8 @@
 -- `settle::table::above` meets its contract. The invariant is `Climbed`.
 use Prim.Native.Nat.{_+_}
-use mathlib.Core.Logic.{⊎-elim}
-use mathlib.Core.Path.{sym}
+use mathlib.Core.Path.{sym, _∙_}
 use native.Mathlib.Omega.{arith}
-use Rattle.settle.proofs.Tree.{Climbed, climb-begins, climb-in, beside-in, climb-found, climb-on, climb-ends, low-reach}
+use Rattle.settle.proofs.Tree.{Climbed, climb-begins, climb-found, climb-on, climb-ends, low-reach}
 use Rattle.settle.proofs.table.above.Statement.{statement}
 use Rattle.settle.proofs.table.above.Tie as tie
 
@@ -17,37 +16,34 @@ shared-slice-read-if1 : tie.Need-shared-slice-read-if1 Inv-loop μ-loop
 shared-slice-read-if1 c = omega arith
 
 returns : tie.Need-returns Inv-loop μ-loop
-returns c = sym (low-reach (c .before .before .pre .0) (c .before .before .args .rank + 1) (c .before .before .args .x) (c .if1 .taken))
+returns c = sym (low-reach (c .before .before .before .pre .0) (c .before .before .before .args .rank + 1) (c .before .before .before .args .x) (c .if1 .taken))
 
 add-n : tie.Need-add-n Inv-loop μ-loop
 add-n c = omega arith
 
 loop-holds : tie.Need-loop-holds Inv-loop μ-loop
-loop-holds c = climb-begins _ _ _ (c .before .before .pre .0) (c .before .before .pre .1)
+loop-holds c = climb-begins _ _ _ (c .before .before .before .pre .0) (c .before .before .before .pre .1)
 
-add-beside : tie.Need-add-beside Inv-loop μ-loop
-add-beside c = omega (arith, climb-in (c .before .loop .inv))
+add-some-above : tie.Need-add-some-above Inv-loop μ-loop
+add-some-above c = omega arith
 
-mul-beside : tie.Need-mul-beside Inv-loop μ-loop
-mul-beside c = omega (arith, climb-in (c .before .loop .inv))
+mul-some-above : tie.Need-mul-some-above Inv-loop μ-loop
+mul-some-above c = omega arith
 
-sub-beside : tie.Need-sub-beside Inv-loop μ-loop
-sub-beside c = omega (arith, climb-in (c .before .loop .inv))
+add-some-above-2 : tie.Need-add-some-above-2 Inv-loop μ-loop
+add-some-above-2 c = omega arith
 
-mul-beside-2 : tie.Need-mul-beside-2 Inv-loop μ-loop
-mul-beside-2 c = omega (arith, climb-in (c .before .loop .inv))
-
-shared-slice-read-beside : tie.Need-shared-slice-read-beside Inv-loop μ-loop
-shared-slice-read-beside c = omega (arith, beside-in (c .before .before .loop .inv) (c .before .loop-test .taken), c .before .before .loop .inv .tree .size)
+some-above-requires : tie.Need-some-above-requires Inv-loop μ-loop
+some-above-requires c κs = omega (arith, c .before .loop .inv .tree .size)
 
 returns-2 : tie.Need-returns-2 Inv-loop μ-loop
-returns-2 c = sym (climb-found (c .before .before .before .before .loop .inv) (c .before .if2 .taken) (c .if3 .taken))
+returns-2 c = sym (climb-found (c .before .before .before .loop .inv) (c .before .before .loop-test .taken) (sym (c .before .some-above .ensures) ∙ c .if2 .taken))
 
 loop-less : tie.Need-loop-less Inv-loop μ-loop
 loop-less c = omega arith
 
 loop-again : tie.Need-loop-again Inv-loop μ-loop
-loop-again c = climb-on (c .before .before .before .loop .inv) (c .before .before .loop-test .taken) (λ e. ⊎-elim (λ a. a .1 .left) (λ b. absurd (b .left e)) (c .if2 .came))
+loop-again c = climb-on (c .before .before .before .loop .inv) (c .before .before .loop-test .taken) (sym (c .before .some-above .ensures) ∙ c .if2 .left)
 
 returns-3 : tie.Need-returns-3 Inv-loop μ-loop
 returns-3 c = sym (climb-ends (c .before .loop .inv) (c .loop-test .left))
@@ -62,11 +58,10 @@ above-spec =
     returns
     add-n
     loop-holds
-    add-beside
-    mul-beside
-    sub-beside
-    mul-beside-2
-    shared-slice-read-beside
+    add-some-above
+    mul-some-above
+    add-some-above-2
+    some-above-requires
     returns-2
     loop-less
     loop-again
