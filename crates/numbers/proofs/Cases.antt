@@ -22,6 +22,16 @@ module _ {P : Type 0} where
   pub clash : {b : Bool} → b ≡ true → b ≡ false → P
   clash t f = let z : true ≡ false = sym t ∙ f in let e : _≡_ {A = ℕ} 0 1 = cc in absurd (omega arith)
 
+-- two tests that hold together are the same, and one that cannot hold is false
+pub both-ways : (a b : Bool) → (a ≡ true → b ≡ true) → (b ≡ true → a ≡ true) → a ≡ b
+both-ways true b f g = sym (f refl)
+both-ways false true f g = g refl
+both-ways false false f g = refl
+
+pub never : (b : Bool) → (b ≡ true → ⊥) → b ≡ false
+never true n = absurd (n refl)
+never false n = refl
+
 pub or-true : (a b : Bool) → (a || b) ≡ true → (a ≡ true) ⊎ (b ≡ true)
 or-true true b e = inl refl
 or-true false b e = inr e

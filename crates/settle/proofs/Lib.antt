@@ -1,4 +1,3 @@
-pub mod Tests
 pub mod Indices
 pub mod Keeping
 pub mod Reading

@@ -14,12 +14,11 @@ use Rattle.settle.specs.Inner.{Enough, Short, OwnShort, noRegion}
 use Rattle.settle.specs.Naming.{nameAt, Tagged, Listed, rivals, anyBelow, outdone}
 use Rattle.settle.specs.Regions.{Lent, Region, regionsOf}
 use Rattle.settle.specs.Settle.{keep, same, highest, renamed}
-use Rattle.numbers.proofs.Cases.{cases, by-eq}
+use Rattle.numbers.proofs.Cases.{cases, by-eq, both-ways}
 use Rattle.numbers.proofs.Lists.{all-at, any-true, any-false, of-any, any-imp, any-at, any-of, any-append}
 use Rattle.settle.proofs.Keeping.{keep-append, any-keep, any-kept, any-middle, keep-middle}
 use Rattle.settle.proofs.Naming.{same-true, true-same, rival-itself, rival-longer, below-of, below-true}
 use Rattle.settle.proofs.Reading.{length-of, region-of}
-use Rattle.settle.proofs.Tests.{both-ways}
 
 -- ---- the highest number, in any order
 
@@ -154,7 +153,7 @@ module _ (seqs lens names : List ℕ) (skip seq : ℕ) (name : List ℕ) (j : �
 
 module _ (g : Lent) (enough : Enough g) where
   pub listed : (tags : List ℕ) → g .count ≤ length tags → Tagged (g .count) (g .lens) (g .names) tags → Listed (g .count) (g .seqs) (g .lens) (g .names) tags
-  listed tags h t = record { seqs-in = enough .seqs; lens-in = enough .lens; names-in = enough .names; tags-in = h; tagged = t }
+  listed tags h t = record { few = enough .few; seqs-in = enough .seqs; lens-in = enough .lens; names-in = enough .names; tags-in = h; tagged = t }
 
   module _ (j : ℕ) (h : j < g .count) where
     at-len : (P : ℕ → Type 0) → All P (take (g .count) (g .lens)) → P (getD (g .lens) j 0)

@@ -11,9 +11,9 @@ use lib.ListN.{length, getD, take, drop, set, length-set, length-take, drop-of-l
 use lib.Seq.{drop-cons, getD-set-same, getD-set-other}
 use borrow.Author.Count.{below-more}
 use borrow.Author.Tests.{eqb-true, eq-eqb, ne-eqb, le-leb, lt-leb}
-use Rattle.settle.specs.Naming.{nameAt, tagFrom, tagOf, Tagged, Listed, Alone, rivals, anyBelow, outdone}
+use Rattle.settle.specs.Naming.{nameAt, tagFrom, tagOf, Tagged, Listed, Absent, rivals, anyBelow, outdone}
 use Rattle.settle.specs.Settle.{same}
-use Rattle.numbers.proofs.Cases.{cases, by-eq, clash, and-true, or-true}
+use Rattle.numbers.proofs.Cases.{cases, by-eq, by-lt, clash, and-true, or-true}
 
 -- ---- the tag of a name, byte by byte
 
@@ -157,40 +157,40 @@ below-true f (suc n) e =
 
 -- ---- tags counted
 
-pub record Counting (tag skip count : ℕ) (tags : List ℕ) (n j : ℕ) : Type 0 where
-  pub enough : count ≤ length tags
-  pub upto : j ≤ count
+pub record Counting (tag from to : ℕ) (tags : List ℕ) (n j : ℕ) : Type 0 where
+  pub enough : to ≤ length tags
   pub few : n ≤ j
-  pub none : n ≡ 0 → (k : ℕ) → k < j → (k ≡ skip → ⊥) → getD tags k 0 ≡ tag → ⊥
+  pub none : n ≡ 0 → (k : ℕ) → from ≤ k → k < j → getD tags k 0 ≡ tag → ⊥
 
-pub counting-begins : (tag skip count : ℕ) (tags : List ℕ) → count ≤ length tags → Counting tag skip count tags 0 0
-counting-begins tag skip count tags h = record { enough = h; upto = omega arith; few = omega arith; none = λ e k i. absurd (omega arith) }
+pub counting-begins : (tag from to : ℕ) (tags : List ℕ) → to ≤ length tags → Counting tag from to tags 0 from
+counting-begins tag from to tags h = record { enough = h; few = omega arith; none = λ e k a i. absurd (omega arith) }
 
-module _ {tag skip count : ℕ} {tags : List ℕ} {n j : ℕ} (g : Counting tag skip count tags n j) where
-  pub counting-on : j < count → ((j ≡ skip → ⊥) → getD tags j 0 ≡ tag → ⊥) → Counting tag skip count tags n (j + 1)
-  counting-on h d =
+module _ {tag from to : ℕ} {tags : List ℕ} {n j : ℕ} (g : Counting tag from to tags n j) where
+  pub counting-on : (getD tags j 0 ≡ tag → ⊥) → Counting tag from to tags n (j + 1)
+  counting-on d =
       record {
         enough = g .enough;
-        upto = omega arith;
         few = omega (arith, g .few);
-        none = λ e k i. by-eq k j (λ q s t. d (λ r. s (q ∙ r)) (sym (ap (λ (m : ℕ). getD tags m 0) q) ∙ t)) (λ q. g .none e k (omega (arith, q)));
+        none = λ e k a i. by-eq k j (λ q t. d (sym (ap (λ (m : ℕ). getD tags m 0) q) ∙ t)) (λ q. g .none e k a (omega (arith, q)));
       }
 
-  pub counting-one : j < count → Counting tag skip count tags (n + 1) (j + 1)
-  counting-one h = record { enough = g .enough; upto = omega arith; few = omega (arith, g .few); none = λ e k i. absurd (omega arith) }
+  pub counting-one : Counting tag from to tags (n + 1) (j + 1)
+  counting-one = record { enough = g .enough; few = omega (arith, g .few); none = λ e k a i. absurd (omega arith) }
 
-  pub counting-ends : count ≤ j → Alone tag skip count tags n
-  counting-ends h = record { none = λ e k i. g .none e k (omega arith) }
+  pub counting-ends : to ≤ j → Absent tag from to tags n
+  counting-ends h = record { none = λ e k a i. g .none e k a (omega arith) }
 
 -- no other record has the tag, so none is one
-pub alone-none : (seqs lens names : List ℕ) (skip seq : ℕ) (name : List ℕ) (tag count n : ℕ) (tags : List ℕ) → Listed count seqs lens names tags → length name ≤ 24 → tag ≡ tagOf name
-    → Alone tag skip count tags n → n ≡ 0 → anyBelow (rivals seqs lens names skip seq name) count ≡ false
-alone-none seqs lens names skip seq name tag count n tags g s t a z =
+pub alone-none : (seqs lens names : List ℕ) (skip seq : ℕ) (name : List ℕ) (tag count n m : ℕ) (tags : List ℕ) → Listed count seqs lens names tags → length name ≤ 24 → tag ≡ tagOf name
+    → Absent tag 0 skip tags n → n ≡ 0 → Absent tag (skip + 1) count tags m → m ≡ 0 → anyBelow (rivals seqs lens names skip seq name) count ≡ false
+alone-none seqs lens names skip seq name tag count n m tags g s t a z b w =
     cases (anyBelow (rivals seqs lens names skip seq name) count)
     (λ e.
     let r = below-true (rivals seqs lens names skip seq name) count e in
-    absurd (a .none z (r .0) (r .1) (λ q. clash (r .2) (rival-itself seqs lens names skip seq name (r .0) q))
-    (rival-tag seqs lens names skip seq name (r .0) count tags g (r .1) s (r .2) ∙ sym t)))
+    let h = r .1 in
+    let q : getD tags (r .0) 0 ≡ tag = rival-tag seqs lens names skip seq name (r .0) count tags g h s (r .2) ∙ sym t in
+    by-lt (r .0) skip (λ l. absurd (a .none z (r .0) (omega arith) l q))
+    (λ l. by-eq (r .0) skip (λ i. clash (r .2) (rival-itself seqs lens names skip seq name (r .0) i)) (λ i. absurd (b .none w (r .0) (omega (arith, i)) h q))))
     (λ e. e)
 
 -- ---- the records one by one

@@ -12,9 +12,8 @@ use lib.Seq.{drop-cons, getD-drop, getD-take, getD-set-same, getD-set-other}
 use borrow.Author.Tests.{ltb-true, lt-ltb, le-ltb, leb-true, le-leb}
 use Rattle.numbers.specs.Lists.{any}
 use Rattle.settle.specs.Inner.{Tree, Raised, reach}
-use Rattle.numbers.proofs.Cases.{clash, by-lt, by-eq, or-true, and-true}
+use Rattle.numbers.proofs.Cases.{clash, by-lt, by-eq, or-true, and-true, both-ways, never}
 use Rattle.numbers.proofs.Lists.{any-true, any-at, any-of, of-any}
-use Rattle.settle.proofs.Tests.{both-ways, never}
 
 -- some slot from lo on and below hi holds more than x
 pub record Over (t : List ℕ) (x lo hi : ℕ) : Type 0 where

@@ -25,15 +25,16 @@ Tagged count lens names tags = (j : ℕ) → j < count → getD lens j 0 ≤ 24 
 
 -- Lists of count records, with their tags.
 pub record Listed (count : ℕ) (seqs lens names tags : List ℕ) : Type 0 where
+  pub few : count ≤ 1024
   pub seqs-in : count ≤ length seqs
   pub lens-in : count ≤ length lens
   pub names-in : 24 * count ≤ length names
   pub tags-in : count ≤ length tags
   pub tagged : Tagged count lens names tags
 
--- Where n is 0, none of the first count tags is this one, but perhaps that at skip.
-pub record Alone (tag skip count : ℕ) (tags : List ℕ) (n : ℕ) : Type 0 where
-  pub none : n ≡ 0 → (j : ℕ) → j < count → (j ≡ skip → ⊥) → getD tags j 0 ≡ tag → ⊥
+-- Where n is 0, none of the tags from one place on and below another is this one.
+pub record Absent (tag from to : ℕ) (tags : List ℕ) (n : ℕ) : Type 0 where
+  pub none : n ≡ 0 → (j : ℕ) → from ≤ j → j < to → getD tags j 0 ≡ tag → ⊥
 
 -- The record j is not the record skip, has the name, and no lower number than seq.
 unfoldable pub rivals : (seqs lens names : List ℕ) → (skip seq : ℕ) → List ℕ → ℕ → Bool

@@ -4,7 +4,7 @@ ghost use mathlib.Core.Path.{_≡_};
 ghost use Prim.Native.Nat.{_+_, _*_, _<_, _≤_};
 ghost use lib.ListN.{length, getD};
 ghost use Rattle.settle.specs.Settle.{same};
-ghost use Rattle.settle.specs.Naming.{Alone, tagOf, Tagged, Listed, rivals, anyBelow, outdone};
+ghost use Rattle.settle.specs.Naming.{Absent, tagOf, Tagged, Listed, rivals, anyBelow, outdone};
 
 // A number made of a name's bytes.
 fn tag_of(name: &[u8]) -> u64
@@ -75,19 +75,17 @@ fn rival(
     same_bytes(&names[24 * j..24 * j + len], name)
 }
 
-// How many of the first count tags, but the one at skip, are this one. Nothing but the count depends
-// on a test, so that the compiler can compare several tags at a time.
-fn others(tag: u64, skip: usize, count: usize, tags: &[u64]) -> usize
-    requires { ⌜ count ≤ length (now tags) ⌝ }
-    ensures { λ r. ⌜ Alone tag skip count (now (tags .entry)) r ⌝ }
+// How many of the tags from one place on and below another are this one. Nothing but the count
+// depends on a test, so that the compiler can compare several tags at a time.
+fn alike(tag: u64, from: usize, to: usize, tags: &[u64]) -> usize
+    requires { ⌜ to ≤ length (now tags) ⌝ }
+    ensures { λ r. ⌜ Absent tag from to (now (tags .entry)) r ⌝ }
 {
     let mut n = 0;
-    let mut j = 0;
-    while j < count {
+    let mut j = from;
+    while j < to {
         if tags[j] == tag {
-            if j != skip {
-                n += 1;
-            }
+            n += 1;
         }
         j += 1;
     }
@@ -106,11 +104,13 @@ fn search(
     names: &[u8],
     tags: &[u64],
 ) -> bool
-    requires { ⌜ Listed count (now seqs) (now lens) (now names) (now tags) × (length (now name) ≤ 24) × (tag ≡ tagOf (now name)) ⌝ }
+    requires { ⌜ Listed count (now seqs) (now lens) (now names) (now tags) × (length (now name) ≤ 24) × (tag ≡ tagOf (now name)) × (skip ≤ count) ⌝ }
     ensures { λ r. ⌜ r ≡ anyBelow (rivals (now (seqs .entry)) (now (lens .entry)) (now (names .entry)) skip seq (now (name .entry))) count ⌝ }
 {
-    if others(tag, skip, count, tags) == 0 {
-        return false;
+    if alike(tag, 0, skip, tags) == 0 {
+        if alike(tag, skip + 1, count, tags) == 0 {
+            return false;
+        }
     }
     let mut j = 0;
     while j < count {

@@ -13,26 +13,32 @@ Inv-loop name tag seq skip count seqs lens names tags j₀ j = Sought seqs lens 
 abbrev μ-loop : tie.MeasureT-loop
 μ-loop name tag seq skip count seqs lens names tags j₀ j = count - j
 
-others-requires : tie.Need-others-requires Inv-loop μ-loop
-others-requires c κs = c .before .before .before .before .before .pre .0 .tags-in
+alike-requires : tie.Need-alike-requires Inv-loop μ-loop
+alike-requires c κs = let h = c .before .before .before .before .before .pre .0 .tags-in in omega (arith, c .before .before .before .before .before .pre .3)
+
+add-alike : tie.Need-add-alike Inv-loop μ-loop
+add-alike c = omega (arith, c .before .before .before .before .before .before .before .pre .3, c .before .before .before .before .before .before .before .pre .0 .few)
+
+alike-requires-2 : tie.Need-alike-requires-2 Inv-loop μ-loop
+alike-requires-2 c κs = c .before .before .before .before .before .before .before .pre .0 .tags-in
 
 returns : tie.Need-returns Inv-loop μ-loop
-returns c = sym (alone-none _ _ _ _ _ _ _ _ _ _ (c .before .before .before .before .before .before .before .pre .0) (c .before .before .before .before .before .before .before .pre .1) (c .before .before .before .before .before .before .before .pre .2) (c .before .others .ensures) (c .if1 .taken))
+returns c = sym (alone-none _ _ _ _ _ _ _ _ _ _ _ (c .before .before .before .before .before .before .before .before .before .pre .0) (c .before .before .before .before .before .before .before .before .before .pre .1) (c .before .before .before .before .before .before .before .before .before .pre .2) (c .before .before .before .alike .ensures) (c .before .before .if1 .taken) (c .before .alike2 .ensures) (c .if2 .taken))
 
 loop-holds : tie.Need-loop-holds Inv-loop μ-loop
 loop-holds c = seek-begins _ _ _ _ _ _ _
 
-mul-if2 : tie.Need-mul-if2 Inv-loop μ-loop
-mul-if2 c = omega arith
+mul-if3 : tie.Need-mul-if3 Inv-loop μ-loop
+mul-if3 c = omega arith
 
-shared-slice-read-if2 : tie.Need-shared-slice-read-if2 Inv-loop μ-loop
-shared-slice-read-if2 c = omega arith
+shared-slice-read-if3 : tie.Need-shared-slice-read-if3 Inv-loop μ-loop
+shared-slice-read-if3 c = omega arith
 
 rival-requires : tie.Need-rival-requires Inv-loop μ-loop
 rival-requires c κs = omega arith
 
 returns-2 : tie.Need-returns-2 Inv-loop μ-loop
-returns-2 c = sym (seek-found (c .before .before .before .before .before .loop .inv) (c .before .before .before .before .loop-test .taken) (sym (c .before .rival .ensures) ∙ c .if3 .taken))
+returns-2 c = sym (seek-found (c .before .before .before .before .before .loop .inv) (c .before .before .before .before .loop-test .taken) (sym (c .before .rival .ensures) ∙ c .if4 .taken))
 
 add-j : tie.Need-add-j Inv-loop μ-loop
 add-j c = omega arith
@@ -41,7 +47,7 @@ loop-less : tie.Need-loop-less Inv-loop μ-loop
 loop-less c = omega arith
 
 loop-again : tie.Need-loop-again Inv-loop μ-loop
-loop-again c = ⊎-elim (λ u. seek-on (c .before .before .before .loop .inv) (c .before .before .loop-test .taken) (sym (u .1 .ensures) ∙ u .2 .left)) (λ u. seek-past (c .before .before .before .loop .inv) (c .before .before .loop-test .taken) _ (c .before .before .before .before .before .before .before .before .before .before .before .pre .0) (c .before .before .before .before .before .before .before .before .before .before .before .pre .1) (λ e. u .left (e ∙ sym (c .before .before .before .before .before .before .before .before .before .before .before .pre .2)))) (c .if2 .came)
+loop-again c = ⊎-elim (λ u. seek-on (c .before .before .before .loop .inv) (c .before .before .loop-test .taken) (sym (u .1 .ensures) ∙ u .2 .left)) (λ u. seek-past (c .before .before .before .loop .inv) (c .before .before .loop-test .taken) _ (c .before .before .before .before .before .before .before .before .before .before .before .pre .0) (c .before .before .before .before .before .before .before .before .before .before .before .pre .1) (λ e. u .left (e ∙ sym (c .before .before .before .before .before .before .before .before .before .before .before .pre .2)))) (c .if3 .came)
 
 returns-3 : tie.Need-returns-3 Inv-loop μ-loop
 returns-3 c = sym (seek-ends (c .before .loop .inv) (c .loop-test .left))
@@ -52,11 +58,13 @@ search-spec =
     (tie.spec
     Inv-loop
     μ-loop
-    others-requires
+    alike-requires
+    add-alike
+    alike-requires-2
     returns
     loop-holds
-    mul-if2
-    shared-slice-read-if2
+    mul-if3
+    shared-slice-read-if3
     rival-requires
     returns-2
     add-j
