@@ -71,11 +71,11 @@ any-pieces g (r ∷ rs) i j = parts i ∙ ap (λ (b : Bool). any (g (r .seq)) (r
 -- ---- items that meet
 
 -- some byte is in both
-abbrev touches : Item → Item → Bool
-touches y x = ltb (max (y .start) (x .start)) (min (y .end) (x .end))
+abbrev shares : Item → Item → Bool
+shares y x = ltb (max (y .start) (x .start)) (min (y .end) (x .end))
 
-touches-comm : (y x : Item) → touches y x ≡ touches x y
-touches-comm y x =
+shares-comm : (y x : Item) → shares y x ≡ shares x y
+shares-comm y x =
     let a : max (y .start) (x .start) ≡ max (x .start) (y .start) = omega arith in
     let b : min (y .end) (x .end) ≡ min (x .end) (y .end) = omega arith in
     rw (a, b)
@@ -87,7 +87,7 @@ mirrored s e h =
 
 -- x starts no later than y
 module _ (x y : Item) (h : x .start ≤ y .start) where
-  in-order : (ltb (x .start) (x .end) && ltb (y .start) (y .end) && ltb (y .start) (x .end)) ≡ touches x y
+  in-order : (ltb (x .start) (x .end) && ltb (y .start) (y .end) && ltb (y .start) (x .end)) ≡ shares x y
   in-order =
       by-lt (y .start) (min (x .end) (y .end))
       (λ a. rw (lt-ltb (x .start) (x .end) (omega arith), lt-ltb (y .start) (y .end) (omega arith), lt-ltb (y .start) (x .end) (omega arith))
@@ -97,13 +97,13 @@ module _ (x y : Item) (h : x .start ≤ y .start) where
       ∙ sym (le-ltb (max (x .start) (y .start)) (min (x .end) (y .end)) (omega arith)))
 
   -- on the way forward x stands in front of y
-  forward : within y x ≡ touches y x
+  forward : within y x ≡ shares y x
   forward =
       ap (λ (b : Bool). b && ltb (y .start) (x .end)) (and-comm (ltb (y .start) (y .end)) (ltb (x .start) (x .end)))
-      ∙ in-order ∙ touches-comm x y
+      ∙ in-order ∙ shares-comm x y
 
   -- and on the way back y in front of x
-  back : x .end ≤ top → y .end ≤ top → within (mirror x) (mirror y) ≡ touches x y
+  back : x .end ≤ top → y .end ≤ top → within (mirror x) (mirror y) ≡ shares x y
   back a b = rw (mirrored (x .start) (x .end) a, mirrored (y .start) (y .end) b, mirrored (y .start) (x .end) a) in-order
 
 -- ---- the items of an order
@@ -172,7 +172,7 @@ module _ (ps : List Piece) (order facts : List Range) (o : Ordered ps order fact
     strikes = struck (λ (y x : Item). c (y .owner) (x .owner)) i
 
     abbrev strike : Item → Item → Bool
-    strike y x = eqb (y .owner) i && c (y .owner) (x .owner) && touches y x
+    strike y x = eqb (y .owner) i && c (y .owner) (x .owner) && shares y x
 
     both : (behind strikes (itemsOf order facts) || behind strikes (reverse (map mirror (itemsOf order facts)))) ≡ anyOther strike (itemsOf order facts)
     both =

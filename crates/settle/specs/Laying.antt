@@ -1,4 +1,4 @@
--- The ranges in scratch.
+-- The ranges in scratch; `settle` promises nothing by these.
 use Prim.Native.Nat.{ℕ, _+_, _<_}
 use mathlib.Core.List.{List}
 use mathlib.Core.Path.{_≡_}

@@ -1,4 +1,4 @@
--- Ranks of sequence numbers, by keys: a key is the pair (number, place of its record).
+-- Ranks of sequence numbers, by keys: a key is the pair (number, place of its record). `settle` promises nothing by these.
 use Prim.Native.Nat.{ℕ, _+_, _<_}
 use mathlib.Core.List.{List}
 use mathlib.Core.Path.{_≡_}

@@ -1,4 +1,4 @@
--- The ranges in the order of their starts, and which of them one arrives upon.
+-- The ranges in the order of their starts, and which of them one arrives upon; `settle` promises nothing by these.
 use Prim.Native.Nat.{ℕ, _+_, _-_, _≤_, _<_}
 use mathlib.Core.Bool.{Bool, true, false, cond, _&&_, _||_}
 use mathlib.Core.List.{List, [], _∷_, map, reverse}
