@@ -1,16 +1,16 @@
 -- What holds of every element of a list or of some: of its parts and at each index; what is written over a list's
 -- front. Over any element type.
-use Prim.Native.Nat.{ℕ, zero, suc, _≤_, _<_}
+use Prim.Native.Nat.{ℕ, zero, suc, _-_, _≤_, _<_}
 use mathlib.Core.Bool.{Bool, true, false, _||_, or-true, or-assoc}
-use mathlib.Core.List.{List, [], _∷_, _++_, map}
+use mathlib.Core.List.{List, [], _∷_, _++_, map, reverse, reverse-cons}
 use mathlib.Core.Logic.{_⊎_, inl, inr, ⊎-elim}
 use mathlib.Core.Path.{_≡_, refl, ap, sym, _∙_}
 use native.Mathlib.Nat.{le-of-suc-le-suc, not-suc-le-zero}
 use native.Mathlib.Omega.{arith}
-use lib.ListN.{length, getD, take, drop, set, length-append, length-drop}
-use lib.Seq.{drop-cons, append-snoc, set-at}
+use lib.ListN.{length, getD, take, drop, set, length-append, length-drop, length-reverse, List·getD-append}
+use lib.Seq.{drop-cons, append-snoc, set-at, getD-at, getD-set-same, getD-set-other}
 use Rattle.numbers.specs.Lists.{All, Any, any, written}
-use Rattle.numbers.proofs.Cases.{cases, clash}
+use Rattle.numbers.proofs.Cases.{cases, clash, by-lt}
 
 module _ {A : Type 0} (P : A → Type 0) where
   pub all-append : (xs ys : List A) → All P xs → All P ys → All P (xs ++ ys)
@@ -162,3 +162,31 @@ module _ {A : Type 0} where
       ∙ set-at xs (getD s (length xs) x) (drop (suc (length xs)) s) x k e
       ∙ sym (append-snoc xs x (drop (suc (length xs)) s))
       ∙ ap (λ (m : ℕ). (xs ++ (x ∷ [])) ++ drop m s) n
+
+-- ---- read at an index: after a store, mapped, and backwards
+
+module _ {A : Type 0} where
+  pub stored-new : (l m : List A) (i j : ℕ) (a d : A) → m ≡ set l i a → i < length l → j ≡ i → getD m j d ≡ a
+  stored-new l m i j a d e h q = ap (λ (t : List A). getD t j d) e ∙ ap (λ (k : ℕ). getD (set l i a) k d) q ∙ getD-set-same l i a d h
+
+  pub stored-old : (l m : List A) (i j : ℕ) (a d : A) → m ≡ set l i a → (j ≡ i → ⊥) → getD m j d ≡ getD l j d
+  stored-old l m i j a d e n = ap (λ (t : List A). getD t j d) e ∙ getD-set-other l i j a d n
+
+pub mapped-at : {A B : Type 0} (f : A → B) (l : List A) (i : ℕ) (d : A) (e : B) → i < length l → getD (map f l) i e ≡ f (getD l i d)
+mapped-at f [] i d e h = absurd (not-suc-le-zero h)
+mapped-at f (x ∷ xs) zero d e h = refl
+mapped-at f (x ∷ xs) (suc i) d e h = mapped-at f xs i d e (le-of-suc-le-suc h)
+
+pub reverse-at : {A : Type 0} (l : List A) (t : ℕ) (d : A) → t < length l → getD (reverse l) t d ≡ getD l (length l - 1 - t) d
+reverse-at [] t d h = absurd (not-suc-le-zero h)
+reverse-at {A} (x ∷ xs) t d h =
+    let e = length-reverse xs in
+    by-lt t (length xs)
+    (λ i.
+    let f : suc (length xs - 1 - t) ≡ suc (length xs) - 1 - t = omega arith in
+    ap (λ (l : List A). getD l t d) (reverse-cons x xs) ∙ List·getD-append (reverse xs) (x ∷ []) d t (omega arith)
+    ∙ reverse-at xs t d i ∙ ap (λ (k : ℕ). getD (x ∷ xs) k d) f)
+    (λ i.
+    let f : 0 ≡ suc (length xs) - 1 - t = omega arith in
+    ap (λ (l : List A). getD l t d) (reverse-cons x xs) ∙ getD-at (reverse xs) x [] d t (omega arith)
+    ∙ ap (λ (k : ℕ). getD (x ∷ xs) k d) f)

@@ -1,5 +1,5 @@
 -- Flat lists and their pairs: lengths, elements, stores and parts.
-use Prim.Native.Nat.{ℕ, zero, suc, _+_, _*_, _/_, _%_, _<_}
+use Prim.Native.Nat.{ℕ, zero, suc, _+_, _*_, _/_, _%_, _≤_, _<_}
 use mathlib.Core.Bool.{true, false}
 use mathlib.Core.List.{List, [], _∷_, _++_}
 use mathlib.Core.Path.{_≡_, refl, ap, sym, _∙_}
@@ -31,6 +31,18 @@ unfolding pairs
 length-pairs [] = refl
 length-pairs (o ∷ []) = refl
 length-pairs (o ∷ n ∷ l) = let e = length-pairs l in omega arith
+
+-- slices of the same length have as many pairs
+pub same-pairs : (s t : List ℕ) → length s ≡ length t → length (pairs s) ≡ length (pairs t)
+same-pairs s t e = let a = length-pairs s in let b = length-pairs t in omega arith
+
+-- half of a slice's length, as the code computes it, is the number of its pairs
+module _ (s : List ℕ) (n t : ℕ) (e : n ≡ length s / 2) where
+  pub half-in : t < n → t < length (pairs s)
+  half-in h = let l = length-pairs s in omega arith
+
+  pub half-out : n ≤ t → length (pairs s) ≤ t
+  half-out h = let l = length-pairs s in omega arith
 
 -- a pair's two numbers are inside the list
 pub pair-in : (l : List ℕ) (i : ℕ) → i < length (pairs l) → 2 * i + 1 < length l

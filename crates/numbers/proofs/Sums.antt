@@ -1,9 +1,10 @@
 -- Sums over lists, and sums that stop at 2^64 - 1.
-use Prim.Native.Nat.{ℕ, zero, suc, _+_, _≤_}
+use Prim.Native.Nat.{ℕ, zero, suc, _+_, _≤_, _<_}
 use mathlib.Core.List.{List, [], _∷_, _++_, map-append}
 use mathlib.Core.Path.{_≡_, ap, sym, _∙_}
 use native.Mathlib.Omega.{arith}
-use lib.ListN.{getD, take, drop, take-append-drop}
+use lib.ListN.{length, getD, take, drop, take-append-drop}
+use lib.Seq.{take-suc, take-take}
 use Rattle.numbers.specs.Range.{Range, total}
 use Rattle.numbers.specs.Sums.{top, stop, sum}
 
@@ -20,6 +21,17 @@ unfolding sum
 at-le-sum [] i = omega arith
 at-le-sum (x ∷ xs) zero = omega arith
 at-le-sum (x ∷ xs) (suc i) = let h = at-le-sum xs i in omega arith
+
+-- of one more at the end, and of a shorter front
+pub sum-next : (l : List ℕ) (i : ℕ) → i < length l → sum (take (suc i) l) ≡ sum (take i l) + getD l i 0
+unfolding sum
+sum-next l i h = ap sum (take-suc l i 0 h) ∙ sum-append (take i l) (getD l i 0 ∷ []) ∙ omega arith
+
+pub sum-front : (l : List ℕ) (i j : ℕ) → i ≤ j → sum (take i l) ≤ sum (take j l)
+sum-front l i j h =
+    let e = sum-split i (take j l) in
+    let f = ap sum (take-take i j l h) in
+    omega arith
 
 -- a sum that stopped may be added to as if it had not
 pub stop-add : (a b : ℕ) → stop (stop a + b) ≡ stop (a + b)

@@ -2,9 +2,10 @@
 use Prim.Native.Nat.{ℕ, suc, _+_, _-_, _≤_, _<_}
 use mathlib.Core.List.{List, [], _∷_, _++_, map, append-nil, append-assoc}
 use mathlib.Core.Path.{_≡_, refl, ap, sym, _∙_}
+use native.Mathlib.Numerals.{add-one}
 use native.Mathlib.Omega.{arith}
 use lib.ListN.{length, getD, set, take, drop, length-append, length-drop, length-map, List·getD-append}
-use lib.Seq.{getD-take, getD-drop, getD-append-add, length-take-le, take-suc, take-take, take-all}
+use lib.Seq.{getD-take, getD-drop, getD-append-add, length-take-le, take-suc, take-all}
 use Rattle.numbers.specs.Pairs.{pairs}
 use Rattle.numbers.specs.Range.{Range, range, blank, endOf}
 use Rattle.numbers.specs.Sums.{stop, sum}
@@ -12,8 +13,9 @@ use Rattle.settle.specs.Inner.{noRegion}
 use Rattle.settle.specs.Laying.{Laid, noPiece}
 use Rattle.settle.specs.Regions.{Piece, piece, piecesFrom, Region, regions}
 use Rattle.numbers.proofs.Cases.{by-eq, by-lt}
-use Rattle.numbers.proofs.Sums.{sum-append, sum-split}
-use Rattle.settle.proofs.Indices.{stored-new, stored-old, mapped-at, same-pairs}
+use Rattle.numbers.proofs.Lists.{stored-new, stored-old, mapped-at}
+use Rattle.numbers.proofs.Pairs.{same-pairs}
+use Rattle.numbers.proofs.Sums.{sum-next, sum-front}
 use Rattle.settle.proofs.Reading.{length-regions, regionAt, region-at}
 
 pub record Laying (rs : List Range) (at count owner first n : ℕ) (s₀ s : List ℕ) (k : ℕ) : Type 0 where
@@ -139,19 +141,6 @@ pieces-more i (q ∷ rs) r =
     (pieces-more (suc i) rs r ∙ ap (λ (j : ℕ). piecesFrom (suc i) rs ++ map (piece j (r .seq)) (r .ranges)) (omega arith))
     ∙ sym (append-assoc (map (piece i (q .seq)) (q .ranges)) (piecesFrom (suc i) rs) (map (piece (i + suc (length rs)) (r .seq)) (r .ranges)))
 
-pub sum-next : (l : List ℕ) (i : ℕ) → i < length l → sum (take (suc i) l) ≡ sum (take i l) + getD l i 0
-unfolding sum
-sum-next l i h = ap sum (take-suc l i 0 h) ∙ sum-append (take i l) (getD l i 0 ∷ []) ∙ omega arith
-
-sum-front : (l : List ℕ) (i j : ℕ) → i ≤ j → sum (take i l) ≤ sum (take j l)
-sum-front l i j h =
-    let e = sum-split i (take j l) in
-    let f = ap sum (take-take i j l h) in
-    omega arith
-
-pub one-more : (i : ℕ) → i + 1 ≡ suc i
-one-more i = omega arith
-
 pub record LayingAll (count : ℕ) (counts : List ℕ) (rs : List Range) (owner first n : ℕ) (s₀ s : List ℕ) (at i : ℕ) : Type 0 where
   pub enough : count ≤ length counts
   pub few : count + owner ≤ 2048
@@ -209,7 +198,7 @@ module _ {count : ℕ} {counts : List ℕ} {rs : List Range} {owner first n : �
           room = g .room;
           space = g .space;
           upto = omega arith;
-          before = ap (λ (k : ℕ). k + getD counts i 0) (g .before) ∙ sym (sum-next counts i (omega (arith, g .enough))) ∙ ap (λ (k : ℕ). sum (take k counts)) (sym (one-more i));
+          before = ap (λ (k : ℕ). k + getD counts i 0) (g .before) ∙ sym (sum-next counts i (omega (arith, g .enough))) ∙ ap (λ (k : ℕ). sum (take k counts)) (sym (add-one i));
           laid = λ seqs lens names. rw (next seqs lens names)
               (laid-more (done seqs lens names) (new seqs) first (first + at) n s₀ s s′ (ap (λ (k : ℕ). first + k) (sym (g .many seqs lens names))) (g .laid seqs lens names) (f (getD seqs i 0)));
           many = λ seqs lens names.
@@ -232,7 +221,7 @@ module _ {count : ℕ} {counts : List ℕ} {rs : List Range} {owner first n : �
             let all : List Region = regions count seqs counts rs lens names in
             let l : length all ≡ count = length-regions count seqs counts rs lens names in
             let t : take (i + 1) all ≡ take i all ++ (regionAt seqs counts rs lens names i ∷ []) =
-            ap (λ (k : ℕ). take k all) (one-more i) ∙ take-suc all i noRegion (omega arith)
+            ap (λ (k : ℕ). take k all) (add-one i) ∙ take-suc all i noRegion (omega arith)
             ∙ ap (λ (r : Region). take i all ++ (r ∷ [])) (region-at count seqs counts rs lens names i h) in
             let k : length (take i all) ≡ i = length-take-le i all (omega arith) in
             ap (piecesFrom owner) t ∙ pieces-more owner (take i all) (regionAt seqs counts rs lens names i)

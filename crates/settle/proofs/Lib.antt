@@ -1,4 +1,3 @@
-pub mod Indices
 pub mod Keeping
 pub mod Reading
 pub mod Tree

@@ -21,10 +21,9 @@ use Rattle.settle.specs.Sweeping.{itemOf, noItem, itemAt, itemsOf, mirro
 use Rattle.settle.specs.declared.sweep.Item.{Item}
 use Rattle.sort.specs.Sort.{Ascending}
 use Rattle.numbers.proofs.Cases.{by-lt}
-use Rattle.numbers.proofs.Lists.{all-append, all-of, all-imp, all-both, all-map, map-all, any-append, any-map, any-same}
+use Rattle.numbers.proofs.Lists.{all-append, all-of, all-imp, all-both, all-map, map-all, any-append, any-map, any-same, mapped-at}
 use Rattle.numbers.proofs.Order.{in-offset}
 use Rattle.numbers.proofs.Ranges.{end-top}
-use Rattle.settle.proofs.Indices.{mapped-at}
 use Rattle.settle.proofs.Others.{InTurn, across, across-none, behind-map, behind-reverse, behind-turn, other-append, other-behind, other-map, other-none, other-same, other-sorted}
 use Rattle.settle.proofs.Reading.{length-of, region-of}
 use Rattle.sort.proofs.Laws.{all-sorted, sorted-ascending, sorted-length}

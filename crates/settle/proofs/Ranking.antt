@@ -14,10 +14,9 @@ use Rattle.numbers.specs.Range.{Range, range, blank}
 use Rattle.settle.specs.Ranking.{Keyed, Keys, below, Ranked, Ranks}
 use Rattle.sort.specs.Sort.{Ascending, Sorted, sorted}
 use Rattle.numbers.proofs.Cases.{by-eq, by-lt}
-use Rattle.numbers.proofs.Lists.{all-at, all-of, all-imp, any-of, any-at, any-imp}
+use Rattle.numbers.proofs.Lists.{all-at, all-of, all-imp, any-of, any-at, any-imp, stored-new, stored-old}
 use Rattle.numbers.proofs.Order.{in-offset}
-use Rattle.numbers.proofs.Pairs.{even-list, length-pairs, pairs-take}
-use Rattle.settle.proofs.Indices.{stored-new, stored-old, same-pairs}
+use Rattle.numbers.proofs.Pairs.{even-list, length-pairs, pairs-take, same-pairs}
 use Rattle.settle.proofs.Keeping.{keep-front, keep-most, keep-less, keep-all}
 use Rattle.sort.proofs.Laws.{ascending-at, all-sorted, any-sorted, sorted-ascending, sorted-length, sorted-pairs}
 

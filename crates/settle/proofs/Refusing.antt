@@ -4,6 +4,7 @@ use mathlib.Core.Bool.{Bool, true, false, not, _&&_, or-true}
 use mathlib.Core.List.{List, [], _∷_}
 use mathlib.Core.Logic.{_⊎_, inl, inr}
 use mathlib.Core.Path.{_≡_, ap, sym, _∙_}
+use native.Mathlib.Numerals.{add-one}
 use native.Mathlib.Omega.{arith}
 use lib.Dec.{eqb, ltb}
 use lib.ListN.{length, getD, take}
@@ -18,8 +19,7 @@ use Rattle.settle.specs.Settle.{rangesIn, tooLong, lentFails, settleFail
 use Rattle.numbers.proofs.Cases.{cases, by-lt, clash, or-false}
 use Rattle.numbers.proofs.Lists.{all-append, all-imp, any-of, any-false, of-any, of-none}
 use Rattle.numbers.proofs.Pairs.{length-pairs, odd-list, even-list}
-use Rattle.numbers.proofs.Sums.{stop-add}
-use Rattle.settle.proofs.Laying.{one-more, sum-next}
+use Rattle.numbers.proofs.Sums.{stop-add, sum-next}
 
 -- ---- a sum that stops
 
@@ -36,7 +36,7 @@ module _ {count : ℕ} {l : List ℕ} {s i : ℕ} (g : Summing count l s i) wher
   pub summing-on : (r : ℕ) → i < count → r ≡ stop (s + getD l i 0) → Summing count l r (i + 1)
   summing-on r h e =
       let n = sum-next l i (omega (arith, g .enough)) in
-      let m = ap (λ (k : ℕ). sum (take k l)) (one-more i) in
+      let m = ap (λ (k : ℕ). sum (take k l)) (add-one i) in
       record {
         enough = g .enough;
         upto = omega arith;
@@ -67,7 +67,7 @@ module _ {f : ℕ → Bool} {count : ℕ} {l : List ℕ} {i : ℕ} (g : Looking 
       record {
         enough = g .enough;
         upto = omega arith;
-        none = rw (one-more i, take-suc l i 0 (omega (arith, g .enough))) (all-append (λ (x : ℕ). f x ≡ false) (take i l) (getD l i 0 ∷ []) (g .none) (e, tt));
+        none = rw (add-one i, take-suc l i 0 (omega (arith, g .enough))) (all-append (λ (x : ℕ). f x ≡ false) (take i l) (getD l i 0 ∷ []) (g .none) (e, tt));
       }
 
   pub looking-ends : count ≤ i → any f (take count l) ≡ false

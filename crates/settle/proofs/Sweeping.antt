@@ -3,11 +3,10 @@ use Prim.Native.Nat.{ℕ, suc, _+_, _-_, _/_, _≤_, _<_}
 use mathlib.Core.Bool.{Bool, true, false, not, _&&_, _||_, or-false, and-false, or-assoc}
 use mathlib.Core.List.{List, [], _∷_, _++_, map, reverse, reverse-cons}
 use mathlib.Core.Path.{_≡_, refl, ap, sym, _∙_}
-use native.Mathlib.Nat.{not-suc-le-zero}
 use native.Mathlib.Omega.{arith}
 use lib.Dec.{ltb, leb, eqb}
-use lib.ListN.{length, getD, set, take, replicate, length-map, length-set, length-reverse, List·getD-append}
-use lib.Seq.{getD-at, set-getD, take-suc, take-all}
+use lib.ListN.{length, getD, set, take, replicate, length-map, length-set, length-reverse}
+use lib.Seq.{set-getD, take-suc, take-all}
 use borrow.Author.Tests.{lt-ltb, le-ltb, lt-leb, le-leb, eq-eqb, ne-eqb}
 use Rattle.numbers.specs.Lists.{All, any}
 use Rattle.numbers.specs.Pairs.{pairs}
@@ -16,9 +15,8 @@ use Rattle.settle.specs.Inner.{Tree, reach, Raised}
 use Rattle.settle.specs.Sweeping.{itemOf, noItem, itemAt, itemsOf, mirror, walk, within, usableOver, ownOver, struck, behind, strikes, Arrived, Ready, Swept, SweptBoth}
 use Rattle.settle.specs.declared.sweep.Item.{Item}
 use Rattle.numbers.proofs.Cases.{by-lt, by-eq, cases, clash}
-use Rattle.numbers.proofs.Lists.{all-append, all-at}
+use Rattle.numbers.proofs.Lists.{all-append, all-at, mapped-at, stored-new, stored-old, reverse-at}
 use Rattle.numbers.proofs.Pairs.{length-pairs}
-use Rattle.settle.proofs.Indices.{mapped-at, stored-new, stored-old}
 use Rattle.settle.proofs.Others.{any-last, behind-last}
 use Rattle.settle.proofs.Tree.{tree-blank, reach-blank}
 
@@ -33,20 +31,6 @@ read-at order facts t p f h e d =
     rw d (ap (itemAt facts) e ∙ sym (mapped-at (itemAt facts) order t blank noItem h))
 
 -- ---- the way, forward and back
-
-reverse-at : {A : Type 0} (l : List A) (t : ℕ) (d : A) → t < length l → getD (reverse l) t d ≡ getD l (length l - 1 - t) d
-reverse-at [] t d h = absurd (not-suc-le-zero h)
-reverse-at {A} (x ∷ xs) t d h =
-    let e = length-reverse xs in
-    by-lt t (length xs)
-    (λ i.
-    let f : suc (length xs - 1 - t) ≡ suc (length xs) - 1 - t = omega arith in
-    ap (λ (l : List A). getD l t d) (reverse-cons x xs) ∙ List·getD-append (reverse xs) (x ∷ []) d t (omega arith)
-    ∙ reverse-at xs t d i ∙ ap (λ (k : ℕ). getD (x ∷ xs) k d) f)
-    (λ i.
-    let f : 0 ≡ suc (length xs) - 1 - t = omega arith in
-    ap (λ (l : List A). getD l t d) (reverse-cons x xs) ∙ getD-at (reverse xs) x [] d t (omega arith)
-    ∙ ap (λ (k : ℕ). getD (x ∷ xs) k d) f)
 
 pub walk-length : (back : Bool) (l : List Item) → length (walk back l) ≡ length l
 unfolding walk

@@ -8,7 +8,7 @@ use Rattle.numbers.specs.Pairs.{pairs}
 use Rattle.numbers.specs.Range.{Range}
 
 -- How the records of one kind are lent: how many they are, and of each its sequence number, how many ranges it has, those
--- ranges as pairs, record by record, the length of its name, and 24 bytes of which its name is the first.
+-- ranges as pairs, record by record, the length of its name, and 24 bytes, of which the first are its name.
 pub record Lent : Type 0 where
   pub count : ℕ
   pub seqs : List ℕ

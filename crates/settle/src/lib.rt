@@ -66,7 +66,8 @@ fn settle_fails(
 
 // Marks the usable records, each by 1 for overlapped, 2 for renamed and 4 for superseded. Records are
 // lent by fields: numbers, counts of ranges, the ranges of all as pairs, lengths of names (255 where
-// an unavailable record has none) and 24 bytes for each name. Answers 0, or the refusal 1.
+// an unavailable record has none) and 24 bytes for each name; the lists of the unavailable records
+// begin with own. Answers 0, or the refusal 1.
 pub fn settle(
     usable: usize,
     seqs: &[u64],

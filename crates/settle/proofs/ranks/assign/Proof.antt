@@ -5,8 +5,7 @@ use mathlib.Core.Path.{refl}
 use native.Mathlib.Omega.{arith}
 use lib.ListN.{length}
 use Rattle.numbers.specs.Pairs.{pairs}
-use Rattle.numbers.proofs.Pairs.{pair-in}
-use Rattle.settle.proofs.Indices.{half-in, half-out}
+use Rattle.numbers.proofs.Pairs.{pair-in, half-in, half-out}
 use Rattle.settle.proofs.Ranking.{Walking, walking-begins, walking-place, walking-rank, walking-same, walking-next, walking-ends}
 use Rattle.settle.proofs.ranks.assign.Statement.{statement}
 use Rattle.settle.proofs.ranks.assign.Tie as tie

@@ -4,8 +4,7 @@ use mathlib.Core.Path.{refl, sym}
 use native.Mathlib.Omega.{arith}
 use Rattle.numbers.specs.Pairs.{pairs}
 use Rattle.settle.specs.Sweeping.{itemsOf, walk}
-use Rattle.numbers.proofs.Pairs.{length-pairs}
-use Rattle.settle.proofs.Indices.{half-in, half-out}
+use Rattle.numbers.proofs.Pairs.{length-pairs, half-in, half-out}
 use Rattle.settle.proofs.Sweeping.{Sweeping, sweep-begins, sweep-on, sweep-ends, way-length, way-owner}
 use Rattle.settle.proofs.sweep.sweep.Statement.{statement}
 use Rattle.settle.proofs.sweep.sweep.Tie as tie
