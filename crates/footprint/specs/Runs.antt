@@ -7,7 +7,7 @@ use lib.Dec.{ltb, leb, eqb}
 use lib.ListN.{length}
 use Rattle.footprint.specs.declared.RunCount.{RunCount}
 use Rattle.footprint.specs.declared.RunCount.the-variants.{Runs, Refused}
-use Rattle.numbers.specs.Lists.{written}
+use Rattle.numbers.specs.Lists.{listAfter}
 use Rattle.numbers.specs.Pairs.{isOdd, pairs}
 use Rattle.numbers.specs.Range.{Range, range}
 use Rattle.numbers.specs.Sums.{top, stop}
@@ -83,10 +83,6 @@ countOf (Refused n) = record { number = n; runs = 0 }
 -- What `runs` answers.
 abbrev pub runsAnswer : List ℕ → ℕ → ℕ → ℕ → Count
 runsAnswer xs s f l = cond (runsFail xs s f l) (record { number = 1; runs = 0 }) (record { number = 0; runs = length (runsOf (pairs xs)) })
-
--- A lent list afterwards: a refused call changes nothing, an accepted one writes vs into the first slots.
-abbrev pub listAfter : Bool → List ℕ → List ℕ → List ℕ
-listAfter refused vs s = cond refused s (written vs s)
 
 -- What `runs` promises: its answer, and every slot of the three lent lists.
 pub record Listed (xs s₀ s f₀ f l₀ l : List ℕ) (c : Count) : Type 0 where

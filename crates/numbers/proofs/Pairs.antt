@@ -6,6 +6,7 @@ use mathlib.Core.Path.{_≡_, refl, ap, sym, _∙_}
 use native.Mathlib.Nat.{not-suc-le-zero}
 use native.Mathlib.Omega.{arith}
 use lib.ListN.{length, getD, take, drop, set, length-append}
+use lib.Seq.{drop-cons, take-at}
 use borrow.Author.Tests.{eq-eqb, ne-eqb}
 use Rattle.numbers.specs.Lists.{written}
 use Rattle.numbers.specs.Pairs.{isOdd, pairs, flat}
@@ -72,6 +73,12 @@ pair-at (o ∷ []) i h = absurd (omega arith)
 pair-at (o ∷ n ∷ l) zero h = refl
 pair-at (o ∷ n ∷ l) (suc i) h = rw (two-suc-one i, two-suc i) (pair-at l i (omega arith))
 
+-- the pairs from i on
+pub pair-next : (l : List ℕ) (i : ℕ) → i < length (pairs l) → drop i (pairs l) ≡ range (getD l (2 * i) 0) (getD l (2 * i + 1) 0) ∷ drop (i + 1) (pairs l)
+pair-next l i h =
+    let e : suc i ≡ i + 1 = omega arith in
+    drop-cons (pairs l) i blank h ∙ rw (pair-at l i (pair-in l i h), e)
+
 -- a store of both its numbers
 pub pair-set : (l : List ℕ) (i a b : ℕ) → 2 * i + 1 < length l → pairs (set (set l (2 * i) a) (2 * i + 1) b) ≡ set (pairs l) i (range a b)
 unfolding pairs
@@ -113,3 +120,16 @@ pair-written rs s i a b e h =
     ap (λ (t : List ℕ). set t (2 * i + 1) b) (written-next (flat rs) s (2 * i) a l (omega arith))
     ∙ written-next (flat rs ++ (a ∷ [])) s (2 * i + 1) b m h
     ∙ ap (λ (t : List ℕ). written t s) (sym (flat-next rs (range a b)))
+
+-- pairs written over a list stand in front
+module _ (rs : List Range) (s : List ℕ) where
+  pub written-pairs : pairs (written (flat rs) s) ≡ rs ++ pairs (drop (length (flat rs)) s)
+  written-pairs =
+      let l = length-flat rs in
+      pairs-append (flat rs) (drop (length (flat rs)) s) (omega arith) ∙ ap (λ (t : List Range). t ++ pairs (drop (length (flat rs)) s)) (pairs-flat rs)
+
+  pub written-front : (k : ℕ) → k ≡ length rs → take k (pairs (written (flat rs) s)) ≡ rs
+  written-front k e = rw written-pairs (take-at rs _ k (sym e))
+
+  pub written-places : length rs ≤ length (pairs (written (flat rs) s))
+  written-places = rw (written-pairs, length-append) (omega arith)

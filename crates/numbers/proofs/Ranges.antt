@@ -3,10 +3,10 @@ use Prim.Native.Nat.{ℕ, _+_, _≤_, _<_, min, max}
 use mathlib.Core.Bool.{true, false}
 use mathlib.Core.Path.{_≡_, sym, _∙_}
 use native.Mathlib.Omega.{arith}
-use borrow.Author.Tests.{ltb-true, lt-ltb}
-use Rattle.numbers.specs.Range.{Range, endOf, Has, Meet, meets}
+use borrow.Author.Tests.{ltb-true, lt-ltb, leb-true, le-leb}
+use Rattle.numbers.specs.Range.{Range, endOf, Has, has, Meet, meets}
 use Rattle.numbers.specs.Sums.{top}
-use Rattle.numbers.proofs.Cases.{cases, clash}
+use Rattle.numbers.proofs.Cases.{cases, clash, never, and-true}
 
 module _ (r : Range) where
   pub end-exact : r .offset + r .len ≤ top → endOf r ≡ r .offset + r .len
@@ -27,6 +27,18 @@ module _ (r : Range) where
 
   pub has-first : (b : ℕ) → Has r b → Has r (r .offset)
   has-first b h = record { from = omega arith; upto = omega arith }
+
+  -- the test says whether it has a byte
+  pub has-true : (b : ℕ) → has r b ≡ true → Has r b
+  unfolding has
+  has-true b e = let p = and-true _ _ e in record { from = leb-true _ _ (p .0); upto = ltb-true _ _ (p .1) }
+
+  pub true-has : (b : ℕ) → Has r b → has r b ≡ true
+  unfolding has
+  true-has b h = simp (le-leb _ _ (h .from), lt-ltb _ _ (h .upto))
+
+  pub has-false : (b : ℕ) → (Has r b → ⊥) → has r b ≡ false
+  has-false b n = never _ (λ e. n (has-true b e))
 
 module _ (r q : Range) where
   -- the test says whether some byte is in both

@@ -1,5 +1,5 @@
 -- What holds of every element of a list, and of some; and a list written over the front of another.
-use mathlib.Core.Bool.{Bool, false, _||_}
+use mathlib.Core.Bool.{Bool, false, cond, _||_}
 use mathlib.Core.List.{List, [], _∷_, _++_}
 use mathlib.Core.Logic.{_⊎_}
 use lib.ListN.{length, drop}
@@ -20,3 +20,7 @@ any f (x ∷ xs) = f x || any f xs
 -- xs in the first slots of s: "slots past a written answer keep their content".
 abbrev pub written : {A : Type 0} → List A → List A → List A
 written xs s = xs ++ drop (length xs) s
+
+-- A lent list afterwards: a refused call changes nothing, an accepted one writes xs into the first slots.
+abbrev pub listAfter : {A : Type 0} → Bool → List A → List A → List A
+listAfter refused xs s = cond refused s (written xs s)

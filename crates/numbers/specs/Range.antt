@@ -1,8 +1,8 @@
 -- Document 01, head: ranges, their ends and bytes, and when two meet.
 use Prim.Native.Nat.{ℕ, _+_, _≤_, _<_, min, max}
-use mathlib.Core.Bool.{Bool}
+use mathlib.Core.Bool.{Bool, _&&_}
 use mathlib.Core.List.{List, map}
-use lib.Dec.{ltb}
+use lib.Dec.{ltb, leb}
 use Rattle.numbers.specs.Sums.{stop, sum}
 
 -- "A range is a pair (offset, length)".
@@ -25,6 +25,10 @@ endOf r = stop (r .offset + r .len)
 pub record Has (r : Range) (b : ℕ) : Type 0 where
   pub from : r .offset ≤ b
   pub upto : b < endOf r
+
+-- The same as a test; `has-true`, `true-has` and `has-false` (proofs/Ranges) tie it to `Has`.
+unfoldable pub has : Range → ℕ → Bool
+has r b = leb (r .offset) b && ltb b (endOf r)
 
 -- "two ranges meet if some byte is in both"
 pub record Meet (r q : Range) : Type 0 where

@@ -6,8 +6,8 @@ use mathlib.Core.Logic.{_⊎_}
 use mathlib.Core.Path.{_≡_}
 use lib.Dec.{ltb, leb, eqb}
 use lib.ListN.{length, take, drop, set}
-use Rattle.footprint.specs.Runs.{Run, run, blankRun, runsOf, runByte, Count, listAfter}
-use Rattle.numbers.specs.Lists.{All}
+use Rattle.footprint.specs.Runs.{Run, run, blankRun, runsOf, runByte, Count}
+use Rattle.numbers.specs.Lists.{All, listAfter}
 use Rattle.numbers.specs.Pairs.{isOdd, pairs, flat}
 use Rattle.numbers.specs.Range.{Range, range, total}
 use Rattle.numbers.specs.Refusals.{refuse, first, eachExtent}

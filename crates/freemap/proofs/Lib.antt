@@ -1,0 +1,8 @@
+pub mod Maximal
+pub mod Ordered
+pub mod Words
+pub mod Places
+pub mod Sweeping
+mod Fitting
+mod Counting
+mod Reading

@@ -1,0 +1,4 @@
+pub mod Gaps
+pub mod Fit
+pub mod Bytes
+pub mod Inner
