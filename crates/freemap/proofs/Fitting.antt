@@ -1,5 +1,5 @@
 -- First fit, gap by gap.
-use Prim.Native.Nat.{ℕ, _+_, _-_, _*_, _≤_, _<_}
+use Prim.Native.Nat.{ℕ, _+_, _-_, _*_, _%_, _^_, _≤_, _<_}
 use mathlib.Core.Bool.{true, false, not, and-false}
 use mathlib.Core.List.{List, [], _∷_}
 use mathlib.Core.Option.{Option, none, some}
@@ -14,7 +14,7 @@ use Rattle.numbers.specs.Powers.{isPowerOfTwo}
 use Rattle.numbers.specs.Range.{Range, range, endOf}
 use Rattle.numbers.specs.Sums.{top}
 use Rattle.align.proofs.Least.{masked}
-use Rattle.numbers.proofs.Cases.{cases}
+use Rattle.numbers.proofs.Cases.{cases, by-lt}
 use Rattle.numbers.proofs.Pairs.{pair-next}
 use Rattle.numbers.proofs.Ranges.{end-le, end-top}
 
@@ -51,7 +51,7 @@ module _ (len align skew : ℕ) (g : Range) where
 
 -- the place as the code computes it, and each of its tests
 module _ (len mask skew start bytes : ℕ) (power : isPowerOfTwo (mask + 1) ≡ true) where
-  abbrev pub pad : ℕ
+  abbrev pad : ℕ
   pad = mask - bitAnd (start + (skew + mask)) mask
 
   abbrev gap : Range
@@ -78,17 +78,30 @@ module _ (len mask skew start bytes : ℕ) (power : isPowerOfTwo (mask + 1) ≡ 
   pub fit-skipped : top < start + (skew + mask) → fit ≡ none
   fit-skipped h = refused-by len (mask + 1) skew gap (skips len (mask + 1) skew gap (omega arith))
 
-  pub fit-far : len ≤ bytes → bytes - len < pad → fit ≡ none
-  fit-far l h = beyond (let e = end-le gap in omega arith)
+  -- the two sums as they wrap: both are right unless the gap is skipped
+  module _ (reach : ℕ) (reached : reach ≡ (start + (skew + mask)) % 2 ^ 64) where
+    exact : start + (skew + mask) ≤ top → reach ≡ start + (skew + mask)
+    exact s = omega (arith, reached)
 
-  pub fit-high : top < start + pad + len → fit ≡ none
-  fit-high h = beyond (let e = end-top gap in omega arith)
+    pub fit-far : len ≤ bytes → bytes - len < mask - bitAnd reach mask → fit ≡ none
+    fit-far l h =
+        by-lt top (start + (skew + mask)) fit-skipped (λ s. beyond (let f : bytes - len < pad = rw (exact s) at h in let e = end-le gap in omega arith))
 
-  pub fit-at : start + (skew + mask) ≤ top → len ≤ bytes → pad ≤ bytes - len → start + pad + len ≤ top → fit ≡ some (start + pad)
-  unfolding endOf
-  fit-at s l p h =
-      allowed-by len (mask + 1) skew gap (has-room len (mask + 1) skew gap (omega arith) (rw pad-place (omega arith)))
-      ∙ ap some pad-place
+    module _ (at : ℕ) (placed : at ≡ (start + (mask - bitAnd reach mask)) % 2 ^ 64) where
+      place-exact : start + (skew + mask) ≤ top → at ≡ start + pad
+      place-exact s = let e : at ≡ (start + pad) % 2 ^ 64 = rw (exact s) at placed in omega (arith, e)
+
+      pub fit-high : top - at < len → fit ≡ none
+      fit-high h =
+          by-lt top (start + (skew + mask)) fit-skipped (λ s. beyond (let p = place-exact s in let e = end-top gap in omega arith))
+
+      pub fit-at : start + (skew + mask) ≤ top → len ≤ bytes → mask - bitAnd reach mask ≤ bytes - len → len ≤ top - at → fit ≡ some at
+      unfolding endOf
+      fit-at s l p h =
+          let q : pad ≤ bytes - len = rw (exact s) at p in
+          let k = place-exact s in
+          allowed-by len (mask + 1) skew gap (has-room len (mask + 1) skew gap (omega arith) (rw pad-place (omega arith)))
+          ∙ ap some (pad-place ∙ sym k)
 
 -- ---- one gap more
 

@@ -1,5 +1,6 @@
 // First fit: the gaps in order, and the place in one of them.
 use crate::Fit;
+use std::num::wrapping_add_u64;
 ghost use mathlib.Core.Path.{_≡_};
 ghost use mathlib.Core.Bool.{true};
 ghost use mathlib.Core.List.{[], _∷_};
@@ -19,7 +20,8 @@ pub struct Spot {
     pub at: u64,
 }
 
-// The place of len bytes in the gap of so many bytes from start on, where mask is align - 1.
+// The place of len bytes in the gap of so many bytes from start on, where mask is align - 1. Its two
+// sums wrap only where the gap is skipped, which is asked last: few gaps come that far.
 fn fit_in(start: u64, bytes: u64, len: u64, mask: u64, skew: u64) -> Spot
     requires { ⌜ (isPowerOfTwo (mask + 1) ≡ true) × (skew + mask ≤ top) ⌝ }
     ensures { λ r. ⌜ spotOf r ≡ firstFit len (mask + 1) skew (range start bytes ∷ []) ⌝ }
@@ -28,15 +30,15 @@ fn fit_in(start: u64, bytes: u64, len: u64, mask: u64, skew: u64) -> Spot
         return Spot { fits: false, at: 0 };
     }
     let lead = skew + mask;
-    if TOP - lead < start {
-        return Spot { fits: false, at: 0 };
-    }
-    let pad = mask - ((start + lead) & mask);
+    let pad = mask - (wrapping_add_u64(start, lead) & mask);
     if bytes - len < pad {
         return Spot { fits: false, at: 0 };
     }
-    let at = start + pad;
+    let at = wrapping_add_u64(start, pad);
     if TOP - at < len {
+        return Spot { fits: false, at: 0 };
+    }
+    if TOP - lead < start {
         return Spot { fits: false, at: 0 };
     }
     Spot { fits: true, at }

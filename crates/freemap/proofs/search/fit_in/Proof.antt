@@ -1,4 +1,3 @@
-use Prim.Native.Nat.{_+_}
 use mathlib.Core.Path.{sym}
 use native.Mathlib.Omega.{arith}
 use lib.Bits.{and-le-r}
@@ -13,32 +12,32 @@ returns c = sym (fit-short (c .before .args .len) (c .before .args .mask) (c .be
 add-lead : tie.Need-add-lead
 add-lead c = search needs
 
-sub-if2 : tie.Need-sub-if2
-sub-if2 c = search needs
-
-returns-2 : tie.Need-returns-2
-returns-2 c = sym (fit-skipped (c .before .before .args .len) (c .before .before .args .mask) (c .before .before .args .skew) (c .before .before .args .start) (c .before .before .args .bytes) (c .before .before .pre .0) (omega (arith, c .if2 .taken, c .before .before .pre .1)))
-
-add-pad : tie.Need-add-pad
-add-pad c = search needs
+wrapping-add-u64-requires : tie.Need-wrapping-add-u64-requires
+wrapping-add-u64-requires c κs = search needs
 
 sub-pad : tie.Need-sub-pad
-sub-pad c = omega (arith, and-le-r (c .before .before .args .start + (c .before .before .args .skew + c .before .before .args .mask)) (c .before .before .args .mask))
+sub-pad c = omega (arith, and-le-r (c .wrapping-add-u64 .result) (c .before .before .args .mask))
+
+returns-2 : tie.Need-returns-2
+returns-2 c = sym (fit-far (c .before .before .before .args .len) (c .before .before .before .args .mask) (c .before .before .before .args .skew) (c .before .before .before .args .start) (c .before .before .before .args .bytes) (c .before .before .before .pre .0) (c .before .wrapping-add-u64 .result) (c .before .wrapping-add-u64 .ensures) (c .before .before .if1 .left) (omega (arith, c .if2 .taken)))
+
+wrapping-add-u64-requires-2 : tie.Need-wrapping-add-u64-requires-2
+wrapping-add-u64-requires-2 c κs = search needs
+
+sub-if3 : tie.Need-sub-if3
+sub-if3 c = search needs
 
 returns-3 : tie.Need-returns-3
-returns-3 c = sym (fit-far (c .before .before .before .args .len) (c .before .before .before .args .mask) (c .before .before .before .args .skew) (c .before .before .before .args .start) (c .before .before .before .args .bytes) (c .before .before .before .pre .0) (c .before .before .if1 .left) (omega (arith, c .if3 .taken)))
-
-add-at : tie.Need-add-at
-add-at c = search needs
+returns-3 c = sym (fit-high (c .before .before .before .before .before .args .len) (c .before .before .before .before .before .args .mask) (c .before .before .before .before .before .args .skew) (c .before .before .before .before .before .args .start) (c .before .before .before .before .before .args .bytes) (c .before .before .before .before .before .pre .0) (c .before .before .before .wrapping-add-u64 .result) (c .before .before .before .wrapping-add-u64 .ensures) (c .before .wrapping-add-u642 .result) (c .before .wrapping-add-u642 .ensures) (omega (arith, c .if3 .taken)))
 
 sub-if4 : tie.Need-sub-if4
 sub-if4 c = search needs
 
 returns-4 : tie.Need-returns-4
-returns-4 c = sym (fit-high (c .before .before .before .before .args .len) (c .before .before .before .before .args .mask) (c .before .before .before .before .args .skew) (c .before .before .before .before .args .start) (c .before .before .before .before .args .bytes) (c .before .before .before .before .pre .0) (omega (arith, c .if4 .taken, c .before .if3 .left, c .before .before .if2 .left)))
+returns-4 c = sym (fit-skipped (c .before .before .before .before .before .before .args .len) (c .before .before .before .before .before .before .args .mask) (c .before .before .before .before .before .before .args .skew) (c .before .before .before .before .before .before .args .start) (c .before .before .before .before .before .before .args .bytes) (c .before .before .before .before .before .before .pre .0) (omega (arith, c .if4 .taken, c .before .before .before .before .before .before .pre .1)))
 
 returns-5 : tie.Need-returns-5
-returns-5 c = sym (fit-at (c .before .before .before .before .args .len) (c .before .before .before .before .args .mask) (c .before .before .before .before .args .skew) (c .before .before .before .before .args .start) (c .before .before .before .before .args .bytes) (c .before .before .before .before .pre .0) (omega (arith, c .before .before .if2 .left, c .before .before .before .before .pre .1)) (c .before .before .before .if1 .left) (omega (arith, c .before .if3 .left)) (omega (arith, c .if4 .left)))
+returns-5 c = sym (fit-at (c .before .before .before .before .before .before .args .len) (c .before .before .before .before .before .before .args .mask) (c .before .before .before .before .before .before .args .skew) (c .before .before .before .before .before .before .args .start) (c .before .before .before .before .before .before .args .bytes) (c .before .before .before .before .before .before .pre .0) (c .before .before .before .before .wrapping-add-u64 .result) (c .before .before .before .before .wrapping-add-u64 .ensures) (c .before .before .wrapping-add-u642 .result) (c .before .before .wrapping-add-u642 .ensures) (omega (arith, c .if4 .left, c .before .before .before .before .before .before .pre .1)) (c .before .before .before .before .before .if1 .left) (omega (arith, c .before .before .before .if2 .left)) (omega (arith, c .before .if3 .left)))
 
 pub fit-in-spec : {M : Type 1} → statement M
 fit-in-spec =
@@ -46,12 +45,12 @@ fit-in-spec =
     (tie.spec
     returns
     add-lead
-    sub-if2
-    returns-2
-    add-pad
+    wrapping-add-u64-requires
     sub-pad
+    returns-2
+    wrapping-add-u64-requires-2
+    sub-if3
     returns-3
-    add-at
     sub-if4
     returns-4
     returns-5)
