@@ -12,20 +12,20 @@ use ours::free::Map;
 /// How many slots the program's list of gaps has.
 const SLOTS: usize = 64;
 
-/// A question is two lines: `fit`, its three arguments, the slots lent; the refusal, whether there is
-/// a place, the place. `bytes`, the slots lent; the refusal and the bytes.
-fn lines(q: &Question, read: &Read, slots: usize) -> String {
+/// `fit`, its three arguments, the slots lent; the refusal, whether there is a place, the place.
+fn fit(q: &Question, read: &Read, slots: usize) -> String {
     let (refusal, place) = read.fit;
-    let (bytes_refusal, bytes) = read.bytes;
+    let (some, at) = (u64::from(place.is_some()), place.unwrap_or(0));
     format!(
-        "fit 2: {} {} {}, {slots}, 0: = {refusal} {} {}, 0:, 0:
-bytes 3: 0 0 0, {slots}, 0: = {bytes_refusal} {bytes} 0, 0:, 0:\n",
-        q.len,
-        q.align,
-        q.skew,
-        u64::from(place.is_some()),
-        place.unwrap_or(0),
+        "fit 2: {} {} {}, {slots}, 0: = {refusal} {some} {at}, 0:, 0:\n",
+        q.len, q.align, q.skew,
     )
+}
+
+/// `bytes`, the slots lent; the refusal and the free bytes.
+fn bytes(read: &Read, slots: usize) -> String {
+    let (refusal, bytes) = read.bytes;
+    format!("bytes 3: 0 0 0, {slots}, 0: = {refusal} {bytes} 0, 0:, 0:\n")
 }
 
 /// The lines of a case: `complement`, table end and length, the slots lent for gaps, the list of
@@ -52,8 +52,14 @@ fn told(case: &Case, map: &mut Map, tally: &mut Tally) -> String {
         list(&due.ranges),
         list(&due.gaps[..written]),
     );
+    let mut told = None;
     for (q, read) in lists.questions.iter().zip(&due.reads) {
-        text += &lines(q, read, q.lent(map.count, lists.gaps.len()));
+        let slots = q.lent(map.count, lists.gaps.len());
+        text += &fit(q, read, slots);
+        // once for so many slots in a row
+        if told.replace(slots) != Some(slots) {
+            text += &bytes(read, slots);
+        }
     }
     text
 }
@@ -117,7 +123,7 @@ pub fn sample(random: &mut Random) {
     let mut tell = |case: &Case| text += &told(case, &mut map, &mut tally);
     tell(&marks());
     chosen().iter().for_each(&mut tell);
-    for i in 0..80 {
+    for i in 0..72 {
         let space = [Space::Tiny, Space::Blocks, Space::Wide, Space::Top][i % 4];
         let n = if i % 20 == 19 { 20 } else { i % 7 };
         let ranges = draw::ranges(n, space, random);
