@@ -37,8 +37,8 @@ fn shape(name: &str, n: usize, random: &mut Random) -> Vec<(u64, u64)> {
     }
 }
 
-/// The ranges are made before; ours has its list of gaps lent, the Rust makes its own and lengthens
-/// it as gaps come. Both sort the ranges in place.
+/// The ranges are made before. The Rust makes its list of gaps and lengthens it as they come, which is
+/// part of its time; ours has its list lent. No gap but the last is found where ranges touch.
 fn complement(many: &str, name: &str, n: usize, rounds: usize, seed: u64) {
     // each round draws its own ranges, the same for both, so that no predictor learns them
     let drawn = RefCell::new(Random::new(seed));
@@ -58,7 +58,7 @@ fn complement(many: &str, name: &str, n: usize, rounds: usize, seed: u64) {
             assert_eq!(refusal, 0);
         },
     );
-    row(&format!("complement of {many}, {name}"), rust, mine);
+    row(&format!("complement of {many} ranges, {name}"), rust, mine);
 }
 
 /// A map of n gaps of so many bytes, each a byte behind a block's start; the last is longer and starts
