@@ -16,6 +16,11 @@ pub fn words(s: &[u64]) -> String {
     s.iter().map(|x| format!(" {x}")).collect()
 }
 
+/// A list in a sample: how many numbers, and the numbers.
+pub fn list(numbers: &[u64]) -> String {
+    format!("{}:{}", numbers.len(), words(numbers))
+}
+
 /// n extents in ascending order, of which `parts` in eight follow the one before.
 pub fn spread(n: usize, parts: u64, random: &mut Random) -> Vec<u64> {
     let mut end = 0;

@@ -3,6 +3,7 @@
 pub mod align;
 pub mod flat;
 pub mod footprint;
+pub mod freemap;
 pub mod lent;
 pub mod random;
 pub mod regionmap;

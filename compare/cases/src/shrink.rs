@@ -71,3 +71,41 @@ pub fn distance(x: u64, y: u64) -> u64 {
 pub fn at_distance(d: u64, y: u64) -> u64 {
     y.wrapping_sub((d >> 1) ^ (d & 1).wrapping_neg())
 }
+
+/// A length, told by its distance from the one that is needed.
+pub fn places(told: u64, need: usize) -> usize {
+    let by = (told / 2).min(1 << 16) as usize;
+    if told % 2 == 0 {
+        need.saturating_sub(by)
+    } else {
+        need + by + 1
+    }
+}
+
+/// A flat list of pairs in which each offset is told by its distance from the end of the last range
+/// that is not empty.
+pub fn apart(ranges: &[(u64, u64)]) -> Vec<u64> {
+    let mut end = 0;
+    let mut told = Vec::new();
+    for &(offset, len) in ranges {
+        told.extend([distance(offset, end), len]);
+        if len > 0 {
+            end = offset.wrapping_add(len);
+        }
+    }
+    told
+}
+
+/// The flat list that is told so.
+pub fn together(told: &[u64]) -> Vec<u64> {
+    let mut end = 0;
+    let mut ranges = Vec::new();
+    for r in told.chunks_exact(2) {
+        let offset = at_distance(r[0], end);
+        ranges.extend([offset, r[1]]);
+        if r[1] > 0 {
+            end = offset.wrapping_add(r[1]);
+        }
+    }
+    ranges
+}

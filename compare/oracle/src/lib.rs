@@ -41,6 +41,7 @@ pub mod map;
 #[path = "../../../../shared/docs/src/crates/store-io-engine/src/footprint.rs"]
 mod engine_footprint;
 
+pub mod free;
 pub mod settle;
 
 /// How the project sorts pairs: `sort_unstable` of the standard library.

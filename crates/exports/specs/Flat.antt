@@ -15,6 +15,11 @@ use Rattle.footprint.specs.declared.Header.{Header}
 use Rattle.footprint.specs.declared.Limits.{Limits}
 use Rattle.footprint.specs.declared.RegionKind.{RegionKind}
 use Rattle.footprint.specs.declared.RegionKind.the-variants.{Append, Page, Slot}
+use Rattle.freemap.specs.Bytes.{Amount}
+use Rattle.freemap.specs.Fit.{Place}
+use Rattle.freemap.specs.Gaps.{answerOf}
+use Rattle.freemap.specs.declared.Complement.{Complement}
+use Rattle.freemap.specs.declared.FreeMap.{FreeMap}
 use Rattle.numbers.specs.Range.{Range}
 use Rattle.regionmap.specs.Map.{Answered, placeOf}
 use Rattle.regionmap.specs.declared.Located.{Located}
@@ -97,3 +102,29 @@ pub record FlatPlace (m : RegionMap) (p n : ℕ) (ss fs : List ℕ) (r : FlatAns
   pub promise : Answered m p n ss fs place
   pub number : r .refusal ≡ placeOf place .number
   pub byte : r .value ≡ placeOf place .byte
+
+abbrev pub freeFrom : ℕ → ℕ → FreeMap
+freeFrom n t = record { count = n; tail = t }
+
+abbrev pub freeOr : FreeMap → Option FreeMap → FreeMap
+freeOr old none = old
+freeOr old (some m) = m
+
+-- 0 and the free map handed back, or the refusal and the numbers as they were.
+pub record FreeHandedOut (a : Complement) (refusal : ℕ) (old new : FreeMap) : Type 0 where
+  pub number : refusal ≡ answerOf a .number
+  pub map : new ≡ freeOr old (answerOf a .map)
+
+-- An answer of which P holds, handed out.
+pub record FlatComplemented (P : Complement → Type 0) (refusal : ℕ) (old new : FreeMap) : Type 0 where
+  pub answer : Complement
+  pub promise : P answer
+  pub handed : FreeHandedOut answer refusal old new
+
+-- A place as a refusal and a number or none.
+pub record FlatFit (p : Place) (refusal : ℕ) (r : FlatOption) : Type 0 where
+  pub number : refusal ≡ p .number
+  pub place : r ≡ flatOf (p .at)
+
+abbrev pub amountFrom : FlatAnswer → Amount
+amountFrom r = record { number = r .refusal; bytes = r .value }

@@ -1,7 +1,7 @@
 //! Times both sides on the same inputs in one run. Argument: a seed.
 
 use cases::random::{Random, SEED};
-use cases::{align, footprint, regionmap, settle, sort, table};
+use cases::{align, footprint, freemap, regionmap, settle, sort, table};
 
 fn main() {
     let seed = std::env::args()
@@ -13,4 +13,5 @@ fn main() {
     footprint::bench(&mut Random::new(seed));
     regionmap::bench(&mut Random::new(seed));
     settle::bench(&mut Random::new(seed));
+    freemap::bench(&mut Random::new(seed));
 }

@@ -2,7 +2,7 @@
 
 use super::sides::{Call, Difference, MOST, Sides};
 use crate::random::Random;
-use crate::shrink::{at_distance, deadline, distance, shrink_until};
+use crate::shrink::{apart, at_distance, deadline, distance, shrink_until, together};
 
 const MAX: u64 = u64::MAX;
 
@@ -194,31 +194,4 @@ fn extension((from, by): (u64, u64), sides: &Sides) -> u64 {
         k => end_of(k as usize - 3),
     };
     at_distance(by, base)
-}
-
-/// A flat list of pairs in which each offset is told by its distance from the end of the last extent
-/// that is not empty.
-fn apart(extents: &[(u64, u64)]) -> Vec<u64> {
-    let mut end = 0;
-    let mut told = Vec::new();
-    for &(offset, len) in extents {
-        told.extend([distance(offset, end), len]);
-        if len > 0 {
-            end = offset.wrapping_add(len);
-        }
-    }
-    told
-}
-
-fn together(told: &[u64]) -> Vec<u64> {
-    let mut end = 0;
-    let mut extents = Vec::new();
-    for e in told.chunks_exact(2) {
-        let offset = at_distance(e[0], end);
-        extents.extend([offset, e[1]]);
-        if e[1] > 0 {
-            end = offset.wrapping_add(e[1]);
-        }
-    }
-    extents
 }

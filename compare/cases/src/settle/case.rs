@@ -1,7 +1,7 @@
 //! Sets of records told in numbers, and the lists that they come to.
 
 use crate::random::Random;
-use crate::shrink::{at_distance, deadline, distance, shrink_until};
+use crate::shrink::{at_distance, deadline, distance, places, shrink_until};
 
 /// What a name has in its list, whatever its length.
 pub const NAME: usize = 24;
@@ -198,16 +198,6 @@ impl Kind {
         };
         list(&mut self.lens, sizes[LENS]);
         list(&mut self.names, sizes[NAMES]);
-    }
-}
-
-/// A length, told by its distance from the one that is needed.
-fn places(told: u64, need: usize) -> usize {
-    let by = (told / 2).min(1 << 16) as usize;
-    if told % 2 == 0 {
-        need.saturating_sub(by)
-    } else {
-        need + by + 1
     }
 }
 

@@ -7,15 +7,10 @@ use super::case::{
 use super::draw;
 use super::sides::{Answer, SUPERSEDED, due};
 use super::{MARKED, Tally};
-use crate::flat::words;
+use crate::flat::list;
 use crate::random::Random;
 use crate::shrink::distance;
 use crate::stored;
-
-/// A list: how many numbers, and the numbers.
-fn list(numbers: &[u64]) -> String {
-    format!("{}:{}", numbers.len(), words(numbers))
-}
 
 fn of_bytes(bytes: &[u8]) -> String {
     list(&bytes.iter().map(|&b| b.into()).collect::<Vec<u64>>())
