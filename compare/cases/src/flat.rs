@@ -35,3 +35,17 @@ pub fn spread(n: usize, parts: u64, random: &mut Random) -> Vec<u64> {
     }
     flat(&extents)
 }
+
+/// A range made of one drawn and another: equal to the other, touching it, up to its start or its end,
+/// from its start, or as drawn.
+pub fn beside(way: u64, (offset, len): (u64, u64), other: (u64, u64)) -> (u64, u64) {
+    let end = other.0.saturating_add(other.1);
+    match way {
+        0 => other,
+        1 => (end, len),
+        2 => (offset.min(other.0), other.0.saturating_sub(offset)),
+        3 => (offset, end.saturating_sub(offset)),
+        4 => (other.0, len),
+        _ => (offset, len),
+    }
+}

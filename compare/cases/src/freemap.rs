@@ -13,6 +13,7 @@ pub use bench::bench;
 pub use sample::sample;
 
 use crate::random::Random;
+use crate::shrink::brief;
 use case::{Case, Lists};
 use sides::{
     Answer, REASONS, by_ours, by_rust, by_words, due, has_place, is_skipped, reasons, refused,
@@ -127,14 +128,6 @@ fn agree(lists: &Lists, (rust, words): &(Answer, Option<Answer>)) -> bool {
 fn differs(case: &Case) -> bool {
     let lists = case.lists();
     !agree(&lists, &answers(&lists))
-}
-
-/// A text's beginning.
-fn brief(text: String) -> String {
-    match text.char_indices().nth(1200) {
-        Some((end, _)) => format!("{} ..", &text[..end]),
-        None => text,
-    }
 }
 
 /// Runs a case; an error names the smallest on which the sides differ.

@@ -32,6 +32,16 @@ impl Random {
             self.next() >> (64 - bits)
         }
     }
+
+    /// Any number, mostly a small one or one at a limit.
+    pub fn number(&mut self) -> u64 {
+        match self.below(8) {
+            0..3 => self.below(12),
+            3 => u64::MAX - self.below(3),
+            4 => (1 << 63) - 1 + self.below(3),
+            _ => self.sized(),
+        }
+    }
 }
 
 /// 0, every power of two and the numbers beside it, and the last numbers of a u64.

@@ -15,6 +15,7 @@ pub use bench::bench;
 pub use sample::sample;
 
 use crate::random::Random;
+use crate::shrink::brief;
 use case::{Case, Lists};
 use sides::{
     Answer, MOST_RANGES, MOST_RECORDS, OVERLAPPED, REASONS, RENAMED, SUPERSEDED, by_ours, by_words,
@@ -94,14 +95,6 @@ fn agree(lists: &Lists, due: &Answer) -> bool {
 fn differs(case: &Case) -> bool {
     let lists = case.lists();
     !agree(&lists, &due(&lists))
-}
-
-/// A text's beginning.
-fn brief(text: String) -> String {
-    match text.char_indices().nth(1200) {
-        Some((end, _)) => format!("{} ..", &text[..end]),
-        None => text,
-    }
 }
 
 /// Runs a case; an error names the smallest on which the two sides differ.

@@ -109,3 +109,11 @@ pub fn together(told: &[u64]) -> Vec<u64> {
     }
     ranges
 }
+
+/// A text's beginning.
+pub fn brief(text: String) -> String {
+    match text.char_indices().nth(1200) {
+        Some((end, _)) => format!("{} ..", &text[..end]),
+        None => text,
+    }
+}

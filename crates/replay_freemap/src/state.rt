@@ -4,6 +4,7 @@ use crate::answers::list_of;
 use crate::checks::alike;
 use freemap::FreeMap;
 use sample::words::at;
+use sample::words::front;
 
 pub(crate) struct State {
     pub(crate) map: FreeMap,
@@ -46,13 +47,4 @@ fn copied<'a>(numbers: &[u64], room: &'a mut [u64]) -> &'a mut [u64] {
         i += 1;
     }
     &mut room[0..i]
-}
-
-// The first n slots, or all where there are fewer.
-fn front(slots: &mut [u64], n: u64) -> &mut [u64] {
-    if n < slots.len() as u64 {
-        let end = n as usize;
-        return &mut slots[0..end];
-    }
-    slots
 }

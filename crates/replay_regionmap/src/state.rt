@@ -3,6 +3,7 @@ use crate::answers::answered;
 use crate::checks::alike;
 use regionmap::RegionMap;
 use sample::words::at;
+use sample::words::front;
 
 pub(crate) struct State {
     pub(crate) map: RegionMap,
@@ -50,13 +51,4 @@ pub(crate) fn replay(before: State, call: &[u64]) -> Next {
     let state = State { map, starts, files };
     let alike = alike(call, answer, before, state, &out);
     Next { state, alike }
-}
-
-// The first n slots, or all where there are fewer.
-fn front(slots: &mut [u64], n: u64) -> &mut [u64] {
-    if n < slots.len() as u64 {
-        let end = n as usize;
-        return &mut slots[0..end];
-    }
-    slots
 }

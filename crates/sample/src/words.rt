@@ -25,6 +25,17 @@ pub fn first(w: &[u64], n: u64) -> &[u64]
     w
 }
 
+// The first n slots, or all where there are fewer, to be written to.
+pub fn front(slots: &mut [u64], n: u64) -> &mut [u64]
+    ensures { λ r. ⌜ now r ≡ take n (now (slots .entry)) ⌝ }
+{
+    if n < slots.len() as u64 {
+        let end = n as usize;
+        return &mut slots[0..end];
+    }
+    slots
+}
+
 // What follows the first n numbers.
 pub fn past(w: &[u64], n: u64) -> &[u64]
     ensures { λ r. ⌜ now r ≡ drop n (now (w .entry)) ⌝ }

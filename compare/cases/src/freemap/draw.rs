@@ -2,7 +2,7 @@
 
 use super::Check;
 use super::case::{Case, Told, plain};
-use crate::flat::{flat, pairs};
+use crate::flat::{beside, flat, pairs};
 use crate::random::Random;
 use oracle::free::Free;
 
@@ -73,16 +73,10 @@ pub fn ranges(n: usize, space: Space, random: &mut Random) -> Vec<(u64, u64)> {
             0 => (0, 0),
             _ => all[random.below(i as u64) as usize],
         };
-        let end = other.0.saturating_add(other.1);
         all.push(match random.below(16) {
-            0 => other,
-            1 => (end, len),
-            2 => (offset.min(other.0), other.0.saturating_sub(offset)),
-            3 => (offset, end.saturating_sub(offset)),
-            4 => (other.0, len),
             5 => (other.0 + other.1 / 3, other.1 / 3),
             6 => (offset, 0),
-            _ => (offset, len),
+            way => beside(way, (offset, len), other),
         });
     }
     all

@@ -8,16 +8,6 @@ use crate::lent::Lent;
 use crate::random::Random;
 use ours::free::Map;
 
-/// Any number, mostly a small one or one at a limit.
-fn number(random: &mut Random) -> u64 {
-    match random.below(8) {
-        0..3 => random.below(12),
-        3 => u64::MAX - random.below(3),
-        4 => (1 << 63) - 1 + random.below(3),
-        _ => random.sized(),
-    }
-}
-
 /// What is due of such a map: the refusal and the place, the refusal and the sum.
 fn due(map: &Map, list: &[u64], q: &Question) -> [(u64, Option<u64>); 2] {
     let gaps = pairs(list).into_iter().take(map.count);
@@ -51,20 +41,20 @@ fn ours(map: &Map, list: &[u64], q: &Question) -> [(u64, Option<u64>); 2] {
 pub fn compare(random: &mut Random) -> Result<usize, String> {
     let rounds = 2_000_000;
     for _ in 0..rounds {
-        let list: Vec<u64> = (0..random.below(14)).map(|_| number(random)).collect();
+        let list: Vec<u64> = (0..random.below(14)).map(|_| random.number()).collect();
         let count = match random.below(4) {
-            0 => number(random) as usize,
+            0 => random.number() as usize,
             _ => random.below(list.len() as u64 / 2 + 1) as usize,
         };
         let map = Map {
             count,
-            tail: number(random),
+            tail: random.number(),
         };
         let align = match random.below(8) {
-            0 => number(random),
+            0 => random.number(),
             _ => 1 << random.below(64).min(random.below(64)),
         };
-        let q = Question::new(number(random), align, number(random));
+        let q = Question::new(random.number(), align, random.number());
         let mut lent = Lent::new(&list);
         let (due, ours) = (due(&map, &list, &q), ours(&map, lent.list(), &q));
         if due != ours || ours::free::tail(&map) != map.tail || !lent.holds(&list) {

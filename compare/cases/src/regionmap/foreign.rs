@@ -15,18 +15,8 @@ struct Foreign {
     given: Vec<u64>,
 }
 
-/// Any number, mostly a small one or one at a limit.
-fn number(random: &mut Random) -> u64 {
-    match random.below(8) {
-        0..3 => random.below(12),
-        3 => u64::MAX - random.below(3),
-        4 => (1 << 63) - 1 + random.below(3),
-        _ => random.sized(),
-    }
-}
-
 fn list(random: &mut Random) -> Vec<u64> {
-    let mut list: Vec<u64> = (0..random.below(12)).map(|_| number(random)).collect();
+    let mut list: Vec<u64> = (0..random.below(12)).map(|_| random.number()).collect();
     if random.below(2) == 0 {
         list.sort_unstable();
     }
@@ -44,15 +34,15 @@ impl Foreign {
     fn drawn(random: &mut Random) -> Self {
         Self {
             map: Map {
-                first: number(random),
-                data: number(random),
-                capacity: number(random),
-                count: number(random) as usize,
-                room: number(random) as usize,
+                first: random.number(),
+                data: random.number(),
+                capacity: random.number(),
+                count: random.number() as usize,
+                room: random.number() as usize,
             },
             lists: [list(random), list(random)],
-            a: number(random),
-            b: number(random),
+            a: random.number(),
+            b: random.number(),
             given: list(random),
         }
     }

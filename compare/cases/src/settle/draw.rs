@@ -2,6 +2,7 @@
 
 use super::case::{Case, MARKS, NAME, NO_NAME, RANGES, Record, SCRATCH, UNAVAILABLE_SIZES};
 use super::shapes::{SHAPES, shape, shuffle};
+use crate::flat::beside;
 use crate::random::Random;
 
 const MAX: u64 = u64::MAX;
@@ -78,15 +79,7 @@ fn ranges(n: usize, space: Space, random: &mut Random) -> Vec<(u64, u64)> {
             0 => (0, 0),
             _ => all[random.below(i as u64) as usize],
         };
-        let end = other.0.saturating_add(other.1);
-        all.push(match random.below(16) {
-            0 => other,
-            1 => (end, len),
-            2 => (offset.min(other.0), other.0.saturating_sub(offset)),
-            3 => (offset, end.saturating_sub(offset)),
-            4 => (other.0, len),
-            _ => (offset, len),
-        });
+        all.push(beside(random.below(16), (offset, len), other));
     }
     all
 }

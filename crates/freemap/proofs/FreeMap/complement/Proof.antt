@@ -1,3 +1,4 @@
+-- `freemap::FreeMap::complement` meets its contract: it is refused, or the ranges are sorted and swept.
 use native.Mathlib.Omega.{arith}
 use borrow.Author.Needs.{needs}
 use Rattle.freemap.proofs.FreeMap.complement.Statement.{statement}

@@ -1,3 +1,4 @@
+-- `freemap::FreeMap::first_fit` meets its contract: each refusal in order, then the search in the gaps that the record counts.
 use mathlib.Core.Bool.{true, false}
 use mathlib.Core.Path.{_≡_, sym, _∙_}
 use native.Mathlib.Omega.{arith}

@@ -1,3 +1,4 @@
+-- `freemap::FreeMap::free_bytes` meets its contract: the sum over the gaps that the record counts.
 use mathlib.Core.Bool.{false}
 use mathlib.Core.Path.{_≡_, sym, _∙_}
 use native.Mathlib.Omega.{arith}

@@ -1,3 +1,4 @@
+-- `freemap::FreeMap::too_few` meets its contract: half of a list's length is its places.
 use Rattle.freemap.specs.Gaps.{tooFew}
 use Rattle.freemap.proofs.FreeMap.too_few.Statement.{statement}
 use Rattle.numbers.proofs.Pairs.{length-pairs}

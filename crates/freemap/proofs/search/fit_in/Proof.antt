@@ -1,3 +1,4 @@
+-- `freemap::search::fit_in` meets its contract: each return is a case of `firstFit` in one gap.
 use mathlib.Core.Path.{sym}
 use native.Mathlib.Omega.{arith}
 use lib.Bits.{and-le-r}

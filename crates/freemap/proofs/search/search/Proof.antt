@@ -1,3 +1,4 @@
+-- `freemap::search::search` meets its contract: no gap in front of i allows it.
 use Prim.Native.Nat.{_+_, _-_, _<_}
 use mathlib.Core.Path.{ap, sym, refl, _∙_}
 use native.Mathlib.Omega.{arith}

@@ -1,3 +1,4 @@
+-- `freemap::sum::sum_bytes` meets its contract: two sums and what is left come to the whole.
 use Prim.Native.Nat.{_-_}
 use mathlib.Core.Path.{refl, _∙_}
 use native.Mathlib.Omega.{arith}

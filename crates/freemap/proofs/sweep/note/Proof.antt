@@ -1,3 +1,4 @@
+-- `freemap::sweep::note` meets its contract: two stores write the gap, where it has a byte.
 use native.Mathlib.Omega.{arith}
 use lib.ListN.{length-set}
 use borrow.Author.Needs.{needs}

@@ -1,3 +1,4 @@
+-- `freemap::sweep::sweep` meets its contract: the ranges in front of i are swept.
 use Prim.Native.Nat.{_-_}
 use mathlib.Core.Path.{_∙_, refl}
 use native.Mathlib.Omega.{arith}
