@@ -6,7 +6,7 @@ use mathlib.Core.Logic.{_⊎_, inl, inr, ⊎-elim}
 use mathlib.Core.Option.{none, some}
 use mathlib.Core.Path.{_≡_, refl, ap, _∙_}
 use native.Mathlib.Omega.{arith}
-use lib.ListN.{length}
+use lib.ListN.{length, getD}
 use borrow.Author.Tests.{eq-eqb, ne-eqb, not-true, le-ltb}
 use Rattle.freemap.specs.Bytes.{counted, freeOf}
 use Rattle.freemap.specs.Fit.{firstFit, found, fitRefusal, fitOf}
@@ -16,13 +16,13 @@ use Rattle.freemap.specs.declared.FreeMap.{FreeMap}
 use Rattle.numbers.specs.Lists.{All, Any, written}
 use Rattle.numbers.specs.Pairs.{pairs, flat}
 use Rattle.numbers.specs.Powers.{isPowerOfTwo}
-use Rattle.numbers.specs.Range.{Range, endOf, Has, has, total}
+use Rattle.numbers.specs.Range.{Range, blank, endOf, Has, has, Meet, total}
 use Rattle.numbers.specs.Refusals.{first, refuse}
 use Rattle.numbers.specs.Sums.{top, stop}
 use Rattle.freemap.proofs.Maximal.{Apart, max-apart, max-has, max-of, max-total, max-ends}
 use Rattle.freemap.proofs.Ordered.{Spans, Ends, span-in, apart-only}
 use Rattle.numbers.proofs.Cases.{cases, by-eq, by-lt, clash, never}
-use Rattle.numbers.proofs.Lists.{all-imp, any-true, of-any, any-imp}
+use Rattle.numbers.proofs.Lists.{all-imp, all-of, any-true, of-any, any-of, any-imp}
 use Rattle.numbers.proofs.Pairs.{written-front, written-places}
 use Rattle.numbers.proofs.Ranges.{has-true, true-has}
 
@@ -55,6 +55,16 @@ module _ (te len : ℕ) (rs : List Range) (small : len ≤ top) where
 
   pub gap-free : (b : ℕ) → Covered (gapsOf te len rs) b → (te ≤ b) × (b < len) × (Covered rs b → ⊥)
   gap-free b h = let m = max-of (free rs) te (len - te) b h in let l = m .0 in let u = m .1 in (l, omega arith, free-true rs b (m .2))
+
+  -- no gap meets a range
+  pub gaps-meet-none : All (λ (g : Range). All (λ (r : Range). Meet g r → ⊥) rs) (gapsOf te len rs)
+  gaps-meet-none =
+      all-of (λ (g : Range). All (λ (r : Range). Meet g r → ⊥) rs) (gapsOf te len rs) blank
+      (λ i h.
+      all-of (λ (r : Range). Meet (getD (gapsOf te len rs) i blank) r → ⊥) rs blank
+      (λ j k m.
+      gap-free (m .byte) (any-of (λ (g : Range). Has g (m .byte)) (gapsOf te len rs) i blank h (m .left)) .2
+      (any-of (λ (r : Range). Has r (m .byte)) rs j blank k (m .right))))
 
   -- the gaps are in order, apart and not empty
   pub gaps-apart : Apart te (gapsOf te len rs)

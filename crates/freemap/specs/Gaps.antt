@@ -36,9 +36,9 @@ unfoldable pub maximal : (ℕ → Bool) → ℕ → ℕ → List Range
 maximal f b zero = []
 maximal f b (suc n) = cond (f b) (ahead b (maximal f (suc b) n)) (maximal f (suc b) n)
 
--- "the maximal gaps of [table end, length) that meet no range", none where length is below table end. Proofs/Words: `in-gap`
--- and `gap-free`, they have its free bytes and no others; `gaps-apart` and `span-in-gap`, in order, apart and maximal; `gaps-only`,
--- no other list is like that.
+-- "the maximal gaps of [table end, length) that meet no range", none where length is below table end. proofs/Words has what
+-- that says: `in-gap` and `gap-free`, they have the free bytes and no others; `gaps-meet-none`; `gaps-apart` and `span-in-gap`,
+-- they stand in order and apart, and are maximal; `gaps-only`, no other list is like that.
 abbrev pub gapsOf : ℕ → ℕ → List Range → List Range
 gapsOf te len rs = maximal (free rs) te (len - te)
 
