@@ -26,7 +26,7 @@ pub unmasked : (align : ℕ) → isPowerOfTwo align ≡ true → align - 1 + 1 �
 unmasked align p = let h = power-pos 64 align p in omega arith
 
 module _ (m : FreeMap) (gs : List ℕ) where
-  -- the record is counted in numbers
+  -- two numbers for each gap that the record counts
   module _ (e : tooFew m gs ≡ false) where
     pub count-in : 2 * (m .count) ≤ length gs
     unfolding tooFew
@@ -46,9 +46,9 @@ module _ (m : FreeMap) (gs : List ℕ) where
     unfolding fitRefusal first refuse
     fit-few e = simp e
 
-    pub fit-odd : tooFew m gs ≡ false → isPowerOfTwo align ≡ false → placeOf (fit.Refused 2) ≡ fitOf m gs len align skew
+    pub fit-no-power : tooFew m gs ≡ false → isPowerOfTwo align ≡ false → placeOf (fit.Refused 2) ≡ fitOf m gs len align skew
     unfolding fitRefusal first refuse
-    fit-odd e p = simp (e, p)
+    fit-no-power e p = simp (e, p)
 
     pub fit-searched : tooFew m gs ≡ false → isPowerOfTwo align ≡ true → (r : Fit) → placeOf r ≡ found (firstFit len (align - 1 + 1) skew (pairs (take (2 * (m .count) - 0) (drop 0 gs)))) → placeOf r ≡ fitOf m gs len align skew
     unfolding fitRefusal first refuse

@@ -44,7 +44,7 @@ placeOf (fit.At a) = found (some a)
 placeOf fit.Nothing = found none
 placeOf (fit.Refused n) = record { number = n; at = none }
 
--- 2. "a free-map call's align is no power of two"
+-- 1, then 2, "a free-map call's align is no power of two".
 unfoldable pub fitRefusal : FreeMap → List ℕ → ℕ → ℕ
 fitRefusal m gs align = first (refuse 1 (tooFew m gs) ∷ refuse 2 (not (isPowerOfTwo align)) ∷ [])
 

@@ -76,6 +76,6 @@ pub record Complemented (te len : ℕ) (rs₀ rs gs₀ gs : List ℕ) (r : Compl
 abbrev pub gapsIn : FreeMap → List ℕ → List Range
 gapsIn m gs = take (m .count) (pairs gs)
 
--- 1. fewer gaps lent than the record counts
+-- 1. "A lent slice is too short": it has fewer gaps than the record counts.
 unfoldable pub tooFew : FreeMap → List ℕ → Bool
 tooFew m gs = ltb (length (pairs gs)) (m .count)

@@ -17,7 +17,7 @@ use Rattle.numbers.specs.Range.{Range, range, endOf}
 abbrev pub gapTo : ℕ → ℕ → List Range
 gapTo a b = cond (ltb a b) (range a (b - a) ∷ []) []
 
--- The gaps from a up to len, given the ranges in order; `swept-gaps` (proofs/Sweeping) says that it is `gapsOf`.
+-- The gaps from a up to len, given the ranges in order: of the sorted list they are `gapsOf` (`swept-of` in proofs/Sweeping).
 unfoldable pub swept : ℕ → ℕ → List Range → List Range
 swept len a [] = gapTo a len
 swept len a (r ∷ rs) = cond (eqb (r .len) 0) (swept len a rs) (gapTo a (min (r .offset) len) ++ swept len (max a (endOf r)) rs)

@@ -25,7 +25,8 @@ fn higher(a: u64, b: u64) -> u64
     a
 }
 
-// Writes the gap from start up to end behind count others, where it has a byte; answers how many there are then.
+// Writes the gap from start up to end behind count others, where it has a byte; answers how many
+// there are then.
 fn note(gaps: &mut [u64], count: usize, start: u64, end: u64) -> usize
     requires { ⌜ count < length (pairs (now gaps)) ⌝ }
     ensures { λ r. ⌜ Noted (now (gaps .entry)) (now (gaps .exit)) count start end r ⌝ }

@@ -8,7 +8,7 @@ use Rattle.freemap.specs.Gaps.{tooFew}
 use Rattle.numbers.specs.Powers.{isPowerOfTwo}
 use Rattle.align.proofs.Least.{power-pos}
 use Rattle.freemap.proofs.FreeMap.first_fit.Statement.{statement}
-use Rattle.freemap.proofs.Reading.{count-in, fit-few, fit-odd, fit-searched, unmasked}
+use Rattle.freemap.proofs.Reading.{count-in, fit-few, fit-no-power, fit-searched, unmasked}
 use Rattle.freemap.proofs.FreeMap.first_fit.Tie as tie
 
 too-few-requires : tie.Need-too-few-requires
@@ -27,7 +27,7 @@ power : (c : tie.Else2) → isPowerOfTwo (c .before .before .before .before .bef
 power c = sym (c .before .is-power-of-two .ensures) ∙ not-false _ (c .if2 .left)
 
 returns-2 : tie.Need-returns-2
-returns-2 c = fit-odd _ _ _ _ _ (counted (c .before .before)) (sym (c .before .is-power-of-two .ensures) ∙ not-true _ (c .if2 .taken))
+returns-2 c = fit-no-power _ _ _ _ _ (counted (c .before .before)) (sym (c .before .is-power-of-two .ensures) ∙ not-true _ (c .if2 .taken))
 
 mul-search : tie.Need-mul-search
 mul-search c = let l = count-in (c .before .before .before .before .before .args .self) (c .before .before .before .before .before .args .gaps .now) (counted (c .before .before)) in omega arith
