@@ -9,8 +9,9 @@ use lib.Seq.{set-append-left}
 use borrow.Author.Tests.{lt-ltb, le-ltb, ne-eqb}
 use Rattle.accounting.specs.Inner.{posted, tagsOf, shifted}
 use Rattle.accounting.specs.Row.{blank, fits}
-use Rattle.accounting.specs.Table.{Table, InTagOrder, Valid, Posts, Asks, accountsOf, tableOf, rowOf, put, onRow, withTotal, same, handed}
+use Rattle.accounting.specs.Table.{Table, InTagOrder, Valid, Posts, Asks, accountsOf, tableOf, rowOf, put, onRow, withTotal, same, handed, asked}
 use Rattle.accounting.specs.declared.Accounting.{Accounting}
+use Rattle.accounting.specs.declared.Asked.{Asked}
 use Rattle.accounting.specs.declared.Posted.{Posted}
 use Rattle.accounting.specs.declared.Posting.{Posting}
 use Rattle.accounting.specs.declared.Posting.the-variants.{AddUsage, RemoveUsage, Reserve, Unreserve, SetCap, Nothing}
@@ -177,16 +178,18 @@ module _ (a : Accounting) (next : Table → Table) (total : Table → ℕ) (p : 
 -- ---- `fits`
 
 module _ (a : Accounting) (tag extra : ℕ) (p : Posted) (g : Posts a (onRow tag same) p) where
-  pub asks-refused : (p .refusal ≡ 0 → ⊥) → Asks a tag extra (record { refusal = p .refusal; fits = false; accounts = p .accounts })
-  asks-refused n =
+  abbrev allowed : Bool
+  allowed = fits extra (rowOf tag (tableOf a .rows))
+
+  asks : (r : Asked) → (Valid a → r ≡ asked p allowed) → r .accounts ≡ p .accounts → Asks a tag extra r
+  asks r e s =
       record {
-        answer = λ v. rw (sym (g .answer v), ne-eqb (p .refusal) 0 n);
-        valid = g .valid;
+        answer = λ v. e v ∙ ap (λ (q : Posted). asked q allowed) (g .answer v);
+        valid = λ v. subst Valid (sym s) (g .valid v);
       }
 
-  pub asks-answered : p .refusal ≡ 0 → (ok : Bool) → (Valid a → ok ≡ fits extra (rowOf tag (tableOf a .rows))) → Asks a tag extra (record { refusal = 0; fits = ok; accounts = p .accounts })
-  asks-answered z ok q =
-      record {
-        answer = λ v. rw (sym (g .answer v), z, q v);
-        valid = g .valid;
-      }
+  pub asks-refused : (p .refusal ≡ 0 → ⊥) → Asks a tag extra (record { refusal = p .refusal; fits = false; accounts = p .accounts })
+  asks-refused n = asks _ (λ v. rw (ne-eqb (p .refusal) 0 n)) refl
+
+  pub asks-answered : p .refusal ≡ 0 → (ok : Bool) → (Valid a → ok ≡ allowed) → Asks a tag extra (record { refusal = 0; fits = ok; accounts = p .accounts })
+  asks-answered z ok q = asks _ (λ v. rw (z, q v)) refl

@@ -48,7 +48,7 @@ posted-requires-2 : tie.Need-posted-requires-2
 posted-requires-2 c κs = search needs
 
 insert-requires : tie.Need-insert-requires
-insert-requires c κs = (c .before .before .before .before .place .ensures .inside, omega (arith, c .before .before .before .before .before .if1 .left, c .before .before .if4 .left))
+insert-requires c κs = (omega (arith, c .before .before .before .before .place .ensures .inside), omega (arith, c .before .before .before .before .before .if1 .left, c .before .before .if4 .left))
 
 returns-4 : tie.Need-returns-4
 returns-4 c = posts (c .before .before .before .before .before .before .before .args .t1) _ _ (on-row-order (c .before .before .before .before .before .before .before .args .tag) (posted (c .before .before .before .before .before .before .before .args .posting))) (λ v. ap (λ (b : Accounting). record { refusal = 0; accounts = b }) (c .insert .ensures) ∙ post-new (c .before .before .before .before .before .before .before .args .t1) v (c .before .before .before .before .before .before .before .args .tag) (c .before .before .before .before .before .place .result) (c .before .before .before .before .before .place .ensures) (λ h e. ⊎-elim (λ u. u .3 .left e) (λ u. absurd (omega (arith, h, u .left))) (c .before .before .before .before .if2 .came)) (posted (c .before .before .before .before .before .before .before .args .posting)) (posted-keeps (c .before .before .before .before .before .before .before .args .posting)) (omega (arith, c .before .before .before .before .before .before .if1 .left, c .before .before .before .if4 .left)) (c .before .posted2 .result) (c .before .posted2 .ensures ∙ ap (posted (c .before .before .before .before .before .before .before .args .posting)) (c .before .before .blank .ensures)))
