@@ -7,21 +7,14 @@ use native.Mathlib.Omega.{arith}
 use lib.ListN.{length, getD, take, drop, set, take-append-drop}
 use lib.Seq.{set-split, split-at}
 use borrow.Author.Tests.{lt-ltb, le-ltb, eq-eqb, ne-eqb}
+use Rattle.accounting.specs.Inner.{Lower, Higher}
 use Rattle.accounting.specs.Row.{blank}
 use Rattle.accounting.specs.Table.{InTagOrder, rowOf, put}
 use Rattle.accounting.specs.declared.TagSpace.{TagSpace}
-use Rattle.numbers.specs.Lists.{All}
 use Rattle.numbers.proofs.Cases.{by-lt, by-eq}
 use Rattle.numbers.proofs.Lists.{all-at, all-imp}
 
 module _ (tag : ℕ) where
-  -- all tags are lower, or higher
-  abbrev pub Lower : List TagSpace → Type 0
-  Lower rs = All (λ (q : TagSpace). q .tag < tag) rs
-
-  abbrev pub Higher : List TagSpace → Type 0
-  Higher rs = All (λ (q : TagSpace). tag < q .tag) rs
-
   pub row-here : (r : TagSpace) (rs : List TagSpace) → r .tag ≡ tag → rowOf tag (r ∷ rs) ≡ r
   unfolding rowOf
   row-here r rs e = simp (eq-eqb (r .tag) tag e)
@@ -30,11 +23,11 @@ module _ (tag : ℕ) where
   unfolding rowOf
   row-later r rs n = simp (ne-eqb (r .tag) tag n)
 
-  row-front : (front rest : List TagSpace) → Lower front → rowOf tag (front ++ rest) ≡ rowOf tag rest
+  row-front : (front rest : List TagSpace) → Lower tag front → rowOf tag (front ++ rest) ≡ rowOf tag rest
   row-front [] rest a = refl
   row-front (r ∷ rs) rest a = row-later r (rs ++ rest) (λ e. omega (arith, e, a .0)) ∙ row-front rs rest (a .1)
 
-  row-behind : (rs : List TagSpace) → Higher rs → rowOf tag rs ≡ blank tag
+  row-behind : (rs : List TagSpace) → Higher tag rs → rowOf tag rs ≡ blank tag
   unfolding rowOf
   row-behind [] a = refl
   row-behind (r ∷ rs) a = row-later r rs (λ e. omega (arith, e, a .0)) ∙ row-behind rs (a .1)

@@ -1,24 +1,23 @@
 -- What the definitions say of each tag's row: the laws for whoever keeps accounts.
 use Prim.Native.Nat.{ℕ, _+_, _-_, _≤_, _<_}
-use mathlib.Core.Bool.{Bool, true, false, cond}
+use mathlib.Core.Bool.{cond}
 use mathlib.Core.List.{List, [], _∷_, map}
 use mathlib.Core.Logic.{_⊎_, inl, inr, ⊎-elim}
 use mathlib.Core.Path.{_≡_, refl, ap, sym, subst, _∙_}
 use native.Mathlib.Omega.{arith}
-use lib.Dec.{ltb, eqb}
+use lib.Dec.{eqb}
 use lib.ListN.{length}
-use borrow.Author.Tests.{lt-ltb, le-ltb, eq-eqb, ne-eqb}
-use Rattle.accounting.specs.Entries.{Usage, usage, addAll, noTags, ofTag}
+use borrow.Author.Tests.{eq-eqb, ne-eqb}
+use Rattle.accounting.specs.Entries.{Usage, addAll, noTags, ofTag}
 use Rattle.accounting.specs.Row.{blank, addUsage, removeUsage, reserve, unreserve}
 use Rattle.accounting.specs.Table.{Table, InTagOrder, HasRow, accountsOf, rowOf, put, onRow, same, handed}
 use Rattle.accounting.specs.declared.TagSpace.{TagSpace}
-use Rattle.accounting.proofs.Handing.{KeepsTag, handed-fit, handed-full}
-use Rattle.accounting.proofs.Rows.{row-here, row-later, put-lower, put-here, put-before, put-cases}
 use Rattle.numbers.specs.Lists.{All, Any}
 use Rattle.numbers.specs.Sums.{top, stop, sum}
+use Rattle.accounting.proofs.Handing.{KeepsTag, handed-fit, handed-full}
+use Rattle.accounting.proofs.Rows.{row-here, row-later, put-lower, put-here, put-before, put-cases}
 use Rattle.numbers.proofs.Cases.{by-lt, by-eq}
 use Rattle.numbers.proofs.Lists.{all-none, all-imp}
-use Rattle.numbers.proofs.Sums.{stop-add, stop-exact}
 
 pub row-tag : (tag : ℕ) (rs : List TagSpace) → rowOf tag rs .tag ≡ tag
 unfolding rowOf

@@ -106,7 +106,6 @@ impl TagSpace {
             Posting::Reserve(bytes) => self.reserve(bytes),
             Posting::Unreserve(bytes) => self.unreserve(bytes),
             Posting::SetCap(cap) => self.set_cap(cap),
-            Posting::Nothing => self,
         }
     }
 }

@@ -1,20 +1,15 @@
-use native.Mathlib.Omega.{arith}
 use mathlib.Core.Path.{sym}
+use native.Mathlib.Omega.{arith}
 use Rattle.accounting.proofs.Amounts.{above-limit, under-limit}
 use Rattle.accounting.proofs.row.at_most.Statement.{statement}
 use Rattle.accounting.proofs.row.at_most.Tie as tie
-use Rattle.accounting.proofs.row.at_most.Reads as reads
-use Rattle.accounting.proofs.row.at_most.Lts as lts
 
--- src/row.rt:18:9
 returns : tie.Need-returns
 returns c = let a = c .before .args in let h = c .if1 .taken in sym (above-limit (a .a) (a .b) (a .c) (a .limit) (omega (arith, h)))
 
--- src/row.rt:22:9
 returns-2 : tie.Need-returns-2
 returns-2 c = let a = c .before .before .args in let h = c .if2 .taken in let g = c .before .if1 .left in sym (above-limit (a .a) (a .b) (a .c) (a .limit) (omega (arith, h, g)))
 
--- src/row.rt:14:1
 returns-3 : tie.Need-returns-3
 returns-3 c = let a = c .before .before .args in let h = c .if2 .left in let g = c .before .if1 .left in under-limit (a .a) (a .b) (a .c) (a .limit) (omega (arith, h, g))
 
