@@ -6,3 +6,4 @@ pub mod Pairs
 pub mod Order
 pub mod Powers
 pub mod Refusals
+pub mod Halving

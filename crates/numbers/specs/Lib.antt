@@ -5,3 +5,4 @@ pub mod Sums
 pub mod Powers
 pub mod Lists
 pub mod Refusals
+pub mod Search

@@ -1,6 +1,10 @@
-// What the language lacks and several crates want: a sum that stops, one held against a limit, and the test for a power of two.
+// What the language lacks and several crates want: sums and differences that stop, a sum held against a
+// limit, the step of a halving search, and the test for a power of two.
+use std::num::wrapping_add_usize;
+use std::num::wrapping_sub_usize;
+ghost use mathlib.Core.Bool.{cond};
 ghost use mathlib.Core.Path.{_≡_};
-ghost use Prim.Native.Nat.{_+_};
+ghost use Prim.Native.Nat.{_+_, _-_, _%_, _^_};
 ghost use lib.Dec.{ltb};
 ghost use Rattle.numbers.specs.Sums.{stop};
 ghost use Rattle.numbers.specs.Powers.{isPowerOfTwo};
@@ -13,6 +17,16 @@ pub fn add_stop(a: u64, b: u64) -> u64
         return 0xffff_ffff_ffff_ffff;
     }
     a + b
+}
+
+// a - b, or 0 where b is above a.
+pub fn sub_stop(a: u64, b: u64) -> u64
+    ensures { λ r. ⌜ r ≡ a - b ⌝ }
+{
+    if a < b {
+        return 0;
+    }
+    a - b
 }
 
 // Whether a + b passes limit.
@@ -33,4 +47,12 @@ pub fn is_power_of_two(n: u64) -> bool
         return false;
     }
     n & (n - 1) == 0
+}
+
+// lo + step where up, else lo, modulo 2^64. By a shift and not by a branch, which a search would guess
+// wrong every other time.
+pub fn advance(lo: usize, step: usize, up: bool) -> usize
+    ensures { λ r. ⌜ r ≡ (lo + cond up step 0) % 2 ^ 64 ⌝ }
+{
+    wrapping_add_usize(lo, wrapping_sub_usize(step << (up as usize), step))
 }

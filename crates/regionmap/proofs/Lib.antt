@@ -1,5 +1,4 @@
 pub mod Order
-pub mod Halving
 pub mod Records
 pub mod Means
 pub mod Extents

@@ -10,8 +10,9 @@ use lib.Seq.{length-take-le, getD-take}
 use borrow.Author.Tests.{ltb-false, le-ltb}
 use Rattle.footprint.specs.Runs.{Run, blankRun}
 use Rattle.numbers.specs.Refusals.{first, refuse}
+use Rattle.numbers.specs.Search.{Rising, Found}
 use Rattle.numbers.specs.Sums.{top, stop}
-use Rattle.regionmap.specs.Inner.{Rising, Found, RunEnd}
+use Rattle.regionmap.specs.Inner.{RunEnd}
 use Rattle.regionmap.specs.Map.{Placement, placementOf, Valid, tooFew, runOf, byteAt, locateRefusal, locateOf}
 use Rattle.regionmap.specs.declared.RegionMap.{RegionMap}
 use Rattle.numbers.proofs.Cases.{or-false, by-lt}

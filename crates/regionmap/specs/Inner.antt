@@ -9,16 +9,6 @@ use Rattle.numbers.specs.Range.{Range, total}
 use Rattle.numbers.specs.Refusals.{eachExtent}
 use Rattle.regionmap.specs.Map.{passesTop, withFirst}
 
--- The first n starts are in order.
-abbrev pub Rising : List ℕ → ℕ → Type 0
-Rising ss n = (i j : ℕ) → i ≤ j → j < n → getD ss i 0 ≤ getD ss j 0
-
--- The start in front of r is at or below p and, where the first n are in order, those from r on are above it.
-pub record Found (ss : List ℕ) (n p r : ℕ) : Type 0 where
-  pub inside : r ≤ n
-  pub below : 0 < r → getD ss (r - 1) 0 ≤ p
-  pub above : Rising ss n → (j : ℕ) → r ≤ j → j < n → p < getD ss j 0
-
 -- Refusals 11 and 12 of extents, and their length together where there is none.
 pub record Measured (xs : List Range) (refusal bytes : ℕ) : Type 0 where
   pub number : refusal ≡ eachExtent passesTop 0 xs

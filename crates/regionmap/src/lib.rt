@@ -10,6 +10,7 @@ use footprint::RunCount;
 use list::list_runs;
 use numbers::add_stop;
 use numbers::passes;
+use numbers::sub_stop;
 use search::find;
 ghost use mathlib.Core.Path.{_≡_};
 ghost use mathlib.Core.Bool.{_||_};
@@ -58,16 +59,6 @@ fn too_few(n: usize, starts: usize, files: usize) -> bool
         return true;
     }
     files < n
-}
-
-// a - b, or 0 where b is above a.
-pub(crate) fn less(a: u64, b: u64) -> u64
-    ensures { λ r. ⌜ r ≡ a - b ⌝ }
-{
-    if a < b {
-        return 0;
-    }
-    a - b
 }
 
 // Whether a run of len bytes at the byte at ends at file.
@@ -164,7 +155,7 @@ impl RegionMap {
         }
         meets(
             files[count - 1],
-            less(self.capacity, starts[count - 1]),
+            sub_stop(self.capacity, starts[count - 1]),
             file,
         )
     }

@@ -1,6 +1,6 @@
 // The runs of a map written out.
 use crate::RegionMap;
-use crate::less;
+use numbers::sub_stop;
 ghost use mathlib.Core.Path.{_≡_};
 ghost use Prim.Native.Nat.{_≤_, _<_};
 ghost use lib.ListN.{length};
@@ -20,11 +20,11 @@ pub(crate) fn list_runs(map: RegionMap, starts: &[u64], files: &[u64], out: &mut
     while i < count {
         let next = starts[i];
         out[2 * i] = file;
-        out[2 * i + 1] = less(next, start);
+        out[2 * i + 1] = sub_stop(next, start);
         start = next;
         file = files[i];
         i += 1;
     }
     out[2 * i] = file;
-    out[2 * i + 1] = less(map.capacity, start);
+    out[2 * i + 1] = sub_stop(map.capacity, start);
 }

@@ -23,23 +23,23 @@ mul-meets c = let h = c .before .before .before .pre in omega (arith, c .if1 .le
 shared-slice-read-meets : tie.Need-shared-slice-read-meets
 shared-slice-read-meets c = let h = c .before .before .before .before .pre in omega (arith, c .before .if1 .left, h .0, h .1)
 
-sub-less : tie.Need-sub-less
-sub-less c = let h = c .before .before .before .before .pre in omega (arith, c .before .if1 .left, h .0, h .1)
+sub-sub-stop : tie.Need-sub-sub-stop
+sub-sub-stop c = let h = c .before .before .before .before .pre in omega (arith, c .before .if1 .left, h .0, h .1)
 
-mul-less : tie.Need-mul-less
-mul-less c = let h = c .before .before .before .before .pre in omega (arith, c .before .if1 .left, h .0, h .1)
+mul-sub-stop : tie.Need-mul-sub-stop
+mul-sub-stop c = let h = c .before .before .before .before .pre in omega (arith, c .before .if1 .left, h .0, h .1)
 
-shared-slice-read-less : tie.Need-shared-slice-read-less
-shared-slice-read-less c = let h = c .before .before .before .before .before .pre in omega (arith, c .before .before .if1 .left, h .0, h .1)
+shared-slice-read-sub-stop : tie.Need-shared-slice-read-sub-stop
+shared-slice-read-sub-stop c = let h = c .before .before .before .before .before .pre in omega (arith, c .before .before .if1 .left, h .0, h .1)
 
-less-requires : tie.Need-less-requires
-less-requires c κs = search needs
+sub-stop-requires : tie.Need-sub-stop-requires
+sub-stop-requires c κs = search needs
 
 meets-requires-2 : tie.Need-meets-requires-2
 meets-requires-2 c κs = search needs
 
 returns-2 : tie.Need-returns-2
-returns-2 c = let a = c .before .before .before .before .before .before .before .args in let h = c .before .before .before .before .before .before .before .pre in let p : 0 < a .self .count = omega (arith, c .before .before .before .before .if1 .left) in c .meets2 .ensures ∙ ap (λ (e : ℕ). eqb e (a .file)) (rw (c .before .less .ensures) (sym (end-later (a .self .capacity) (a .self .first) (a .self .count) (a .starts .now) (a .files .now) p (h .0) (h .1))))
+returns-2 c = let a = c .before .before .before .before .before .before .before .args in let h = c .before .before .before .before .before .before .before .pre in let p : 0 < a .self .count = omega (arith, c .before .before .before .before .if1 .left) in c .meets2 .ensures ∙ ap (λ (e : ℕ). eqb e (a .file)) (rw (c .before .sub-stop .ensures) (sym (end-later (a .self .capacity) (a .self .first) (a .self .count) (a .starts .now) (a .files .now) p (h .0) (h .1))))
 
 pub ends-at-spec : {M : Type 1} → statement M
 ends-at-spec =
@@ -50,9 +50,9 @@ ends-at-spec =
     sub-meets
     mul-meets
     shared-slice-read-meets
-    sub-less
-    mul-less
-    shared-slice-read-less
-    less-requires
+    sub-sub-stop
+    mul-sub-stop
+    shared-slice-read-sub-stop
+    sub-stop-requires
     meets-requires-2
     returns-2)

@@ -6,7 +6,7 @@ use native.Mathlib.Omega.{arith}
 use lib.Dec.{ltb}
 use borrow.Author.Needs.{needs}
 use borrow.Author.Tests.{ltb-false}
-use Rattle.regionmap.specs.Inner.{Found}
+use Rattle.numbers.specs.Search.{Found}
 use Rattle.regionmap.specs.Map.{placementOf, Valid, runOf}
 use Rattle.regionmap.proofs.Lookup.{Enough, lists-pass, lists-fail, found-end, found-first, found-later, locate-few, locate-past, locate-across, locate-at}
 use Rattle.regionmap.proofs.RegionMap.locate.Statement.{statement}

@@ -31,8 +31,8 @@ mul-out-2 c = let h = list-room (c .before .before .loop .inv) in omega arith
 slice-write-out : tie.Need-slice-write-out Inv-loop μ-loop
 slice-write-out c = let h = list-room (c .before .before .loop .inv) in omega arith
 
-less-requires : tie.Need-less-requires Inv-loop μ-loop
-less-requires c κs = search needs
+sub-stop-requires : tie.Need-sub-stop-requires Inv-loop μ-loop
+sub-stop-requires c κs = search needs
 
 mul-out-3 : tie.Need-mul-out-3 Inv-loop μ-loop
 mul-out-3 c = let h = list-room (c .before .before .before .loop .inv) in omega arith
@@ -59,7 +59,7 @@ loop-less : tie.Need-loop-less Inv-loop μ-loop
 loop-less c = omega (arith, c .before .before .before .loop-test .taken)
 
 loop-again : tie.Need-loop-again Inv-loop μ-loop
-loop-again c = rw (c .before .less .ensures) (list-on (c .before .before .before .before .loop .inv) (c .before .before .before .loop-test .taken))
+loop-again c = rw (c .before .sub-stop .ensures) (list-on (c .before .before .before .before .loop .inv) (c .before .before .before .loop-test .taken))
 
 mul-out-5 : tie.Need-mul-out-5 Inv-loop μ-loop
 mul-out-5 c = let h = list-room (c .before .loop .inv) in omega arith
@@ -70,8 +70,8 @@ mul-out-6 c = let h = list-room (c .before .loop .inv) in omega arith
 slice-write-out-3 : tie.Need-slice-write-out-3 Inv-loop μ-loop
 slice-write-out-3 c = let h = list-room (c .before .loop .inv) in omega arith
 
-less-requires-2 : tie.Need-less-requires-2 Inv-loop μ-loop
-less-requires-2 c κs = search needs
+sub-stop-requires-2 : tie.Need-sub-stop-requires-2 Inv-loop μ-loop
+sub-stop-requires-2 c κs = search needs
 
 mul-out-7 : tie.Need-mul-out-7 Inv-loop μ-loop
 mul-out-7 c = let h = list-room (c .before .before .loop .inv) in omega arith
@@ -89,7 +89,7 @@ same-length : tie.Need-same-length Inv-loop μ-loop
 same-length c = simp length-set (list-length (c .before .before .loop .inv))
 
 returns : tie.Need-returns Inv-loop μ-loop
-returns c = rw (c .less2 .ensures) (list-ends (c .before .before .loop .inv) (c .before .loop-test .left))
+returns c = rw (c .sub-stop2 .ensures) (list-ends (c .before .before .loop .inv) (c .before .loop-test .left))
 
 pub list-runs-spec : {M : Type 1} → statement M
 list-runs-spec =
@@ -103,7 +103,7 @@ list-runs-spec =
     mul-out
     mul-out-2
     slice-write-out
-    less-requires
+    sub-stop-requires
     mul-out-3
     add-out
     mul-out-4
@@ -116,7 +116,7 @@ list-runs-spec =
     mul-out-5
     mul-out-6
     slice-write-out-3
-    less-requires-2
+    sub-stop-requires-2
     mul-out-7
     add-out-2
     mul-out-8

@@ -1,6 +1,7 @@
 -- `regionmap::search::find` meets its contract: each turn keeps what may still be sought.
 use native.Mathlib.Omega.{arith}
-use Rattle.regionmap.proofs.Halving.{Halving, halving-begins, halving-in, halving-short, halving-on, halving-ends}
+use borrow.Author.Needs.{needs}
+use Rattle.numbers.proofs.Halving.{Halving, halving-begins, halving-in, halving-short, halving-on, halving-ends}
 use Rattle.regionmap.proofs.search.find.Statement.{statement}
 use Rattle.regionmap.proofs.search.find.Tie as tie
 
@@ -29,13 +30,13 @@ shared-slice-read-advance : tie.Need-shared-slice-read-advance Inv-loop μ-loop
 shared-slice-read-advance c = halving-in (c .before .before .loop .inv) (c .before .loop-test .taken)
 
 advance-requires : tie.Need-advance-requires Inv-loop μ-loop
-advance-requires c κs = let h = halving-short (c .before .before .loop .inv) (c .before .loop-test .taken) in omega arith
+advance-requires c κs = search needs
 
 loop-less : tie.Need-loop-less Inv-loop μ-loop
 loop-less c = omega (arith, c .before .before .loop-test .taken)
 
 loop-again : tie.Need-loop-again Inv-loop μ-loop
-loop-again c = halving-on (c .before .before .before .loop .inv) (c .before .before .loop-test .taken) _ (c .advance .ensures)
+loop-again c = halving-on (c .before .before .before .loop .inv) (c .before .before .loop-test .taken) (search needs) _ (c .advance .ensures)
 
 returns : tie.Need-returns Inv-loop μ-loop
 returns c = halving-ends (c .before .loop .inv) (c .loop-test .left)

@@ -1,4 +1,4 @@
--- The halving search: which of the first count starts are at or below a position.
+-- The halving search: how many of the first count numbers are at or below one.
 use Prim.Native.Nat.{ℕ, _+_, _-_, _*_, _/_, _%_, _^_, _≤_, _<_}
 use mathlib.Core.Bool.{Bool, cond}
 use mathlib.Core.List.{List}
@@ -7,11 +7,11 @@ use native.Mathlib.Omega.{arith}
 use lib.Dec.{leb}
 use lib.ListN.{length, getD}
 use borrow.Author.Tests.{lt-leb, le-leb}
-use Rattle.regionmap.specs.Inner.{Rising, Found}
+use Rattle.numbers.specs.Search.{Rising, Found}
 use Rattle.numbers.proofs.Cases.{by-lt, cases}
 use mir.Val.{boolByte}
 
--- from lo on, at most n more starts are at or below p
+-- from lo on, at most n more numbers are at or below p
 pub record Halving (ss : List ℕ) (count p lo n : ℕ) : Type 0 where
   pub enough : count ≤ length ss
   pub inside : lo + n ≤ count
@@ -39,7 +39,7 @@ module _ {ss : List ℕ} {count p lo n : ℕ} (g : Halving ss count p lo n) wher
     pub halving-short : lo + step + step ≤ length ss + 1
     halving-short = omega (arith, g .inside, g .enough)
 
-    -- the start in the middle is at or below p
+    -- the number in the middle is at or below p
     up : getD ss (lo + step - 1) 0 ≤ p → Halving ss count p (lo + step) (n / 2)
     up h =
         record {
@@ -59,11 +59,11 @@ module _ {ss : List ℕ} {count p lo n : ℕ} (g : Halving ss count p lo n) wher
           above = λ r j a b. let o = r (lo + step - 1) j (omega (arith, a)) b in omega (arith, h, o);
         }
 
-    pub halving-on : (next : ℕ) → next ≡ cond (leb (getD ss (lo + step - 1) 0) p) (lo + step) lo → Halving ss count p next (n / 2)
-    halving-on next e =
+    pub halving-on : count < 2 ^ 64 → (next : ℕ) → next ≡ (lo + cond (leb (getD ss (lo + step - 1) 0) p) step 0) % 2 ^ 64 → Halving ss count p next (n / 2)
+    halving-on f next e =
         by-lt p (getD ss (lo + step - 1) 0)
-        (λ h. rw e (simp (lt-leb (getD ss (lo + step - 1) 0) p h) (down h)))
-        (λ h. rw e (simp (le-leb (getD ss (lo + step - 1) 0) p h) (up h)))
+        (λ h. let d = rw (lt-leb (getD ss (lo + step - 1) 0) p h) at e in let n : next ≡ lo = omega (arith, d, g .inside) in rw n (down h))
+        (λ h. let d = rw (le-leb (getD ss (lo + step - 1) 0) p h) at e in let n : next ≡ lo + step = omega (arith, d, g .inside) in rw n (up h))
 
   pub halving-ends : n ≤ 0 → Found ss count p lo
   halving-ends l =
@@ -79,15 +79,5 @@ module _ (b : Bool) where
   pub one-bit : boolByte b < 64
   one-bit = cases b (λ e. rw e (omega arith)) (λ e. rw e (omega arith))
 
-  module _ (lo step : ℕ) (h : lo + step + step < 2 ^ 64) where
-    pub shifted : step * 2 ^ boolByte b % 2 ^ 64 ≡ cond b (step + step) step
-    shifted = cases b (λ e. rw e (omega arith)) (λ e. rw e (omega arith))
-
-    pub not-less : step ≤ step * 2 ^ boolByte b % 2 ^ 64
-    not-less = rw shifted (cases b (λ e. simp e (omega arith)) (λ e. simp e (omega arith)))
-
-    pub advanced : lo + (step * 2 ^ boolByte b % 2 ^ 64 - step) ≡ cond b (lo + step) lo
-    advanced = rw shifted (cases b (λ e. simp e (omega arith)) (λ e. simp e (omega arith)))
-
-    pub in-range : lo + (step * 2 ^ boolByte b % 2 ^ 64 - step) < 2 ^ 64
-    in-range = rw advanced (cases b (λ e. simp e (omega arith)) (λ e. simp e (omega arith)))
+  pub advanced : (lo step less : ℕ) → lo < 2 ^ 64 → step < 2 ^ 64 → less < 2 ^ 64 → (less + step) % 2 ^ 64 ≡ step * 2 ^ boolByte b % 2 ^ 64 → (lo + less) % 2 ^ 64 ≡ (lo + cond b step 0) % 2 ^ 64
+  advanced lo step less h k m e = cases b (λ t. let f = rw t at e in rw t (omega (arith, f))) (λ t. let f = rw t at e in rw t (omega (arith, f)))

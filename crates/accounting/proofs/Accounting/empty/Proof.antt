@@ -1,0 +1,14 @@
+use borrow.Author.Needs.{needs}
+use Rattle.accounting.specs.Table.{accountsOf}
+use Rattle.accounting.proofs.Accounting.empty.Statement.{statement}
+use Rattle.accounting.proofs.Accounting.empty.Tie as tie
+
+blank-requires : tie.Need-blank-requires
+blank-requires c κs = search needs
+
+returns : tie.Need-returns
+unfolding accountsOf
+returns c = rw (c .blank .ensures)
+
+pub empty-spec : {M : Type 1} → statement M
+empty-spec = tie.close (tie.spec blank-requires returns)

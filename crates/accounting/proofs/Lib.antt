@@ -1,0 +1,6 @@
+pub mod Amounts
+pub mod Rows
+pub mod Tables
+pub mod Handing
+pub mod Counting
+mod Shifting

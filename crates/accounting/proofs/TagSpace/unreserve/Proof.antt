@@ -1,0 +1,12 @@
+use borrow.Author.Needs.{needs}
+use Rattle.accounting.proofs.TagSpace.unreserve.Statement.{statement}
+use Rattle.accounting.proofs.TagSpace.unreserve.Tie as tie
+
+sub-stop-requires : tie.Need-sub-stop-requires
+sub-stop-requires c κs = search needs
+
+returns : tie.Need-returns
+returns c = rw (c .sub-stop .ensures)
+
+pub unreserve-spec : {M : Type 1} → statement M
+unreserve-spec = tie.close (tie.spec sub-stop-requires returns)

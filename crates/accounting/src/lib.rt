@@ -1,0 +1,264 @@
+// Usage by tag: what a tag's regions hold, what is reserved for it, and its cap.
+mod entries;
+mod row;
+mod table;
+
+use entries::count_entries;
+use entries::count_usage;
+use entries::extent_len_or;
+use numbers::add_stop;
+use numbers::passes;
+use numbers::sub_stop;
+ghost use mathlib.Core.Path.{_≡_};
+ghost use lib.ListN.{getD};
+ghost use Rattle.accounting.specs.Entries.{Counts, noTags, usages, readyUsages, differ, extentLen, lenOf, addedLen, removedLen};
+ghost use Rattle.accounting.specs.Row.{blank, addUsage, removeUsage, setCap};
+ghost use Rattle.accounting.specs.Table.{Valid, Posts, Asks, accountsOf, tableOf, onRow, reserving, unreserving, rowOf};
+
+const TOP: u64 = 0xffff_ffff_ffff_ffff;
+
+// The most tags.
+pub(crate) const MOST: usize = 96;
+
+// The most bytes that a tag's regions and reservations may hold together, if there is such a limit.
+pub enum Cap {
+    Nothing,
+    Limit(u64),
+}
+
+// Usage of one tag.
+pub struct TagSpace {
+    pub tag: u32,
+    // Data bytes of the tag's regions.
+    pub logical: u64,
+    // Bytes that the tag's regions occupy in the container, headers included.
+    pub physical: u64,
+    // Bytes reserved for the tag and not yet provisioned.
+    pub reserved: u64,
+    pub cap: Cap,
+}
+
+// The accounts of all tags. Rows stand in tag order; those at and past the count are blank.
+pub struct Accounting {
+    pub rows: [TagSpace; 96],
+    pub count: usize,
+    // Bytes reserved and not yet provisioned, all tags.
+    pub reserved: u64,
+}
+
+// Document 01's refusal, 0 where there is none, and the accounts, which a refused call leaves as they
+// were.
+pub struct Posted {
+    pub refusal: u64,
+    pub accounts: Accounting,
+}
+
+// The same, and whether the bytes fit.
+pub struct Asked {
+    pub refusal: u64,
+    pub fits: bool,
+    pub accounts: Accounting,
+}
+
+// What a region occupies, none past 2^64 - 1.
+pub enum ExtentLen {
+    Bytes(u64),
+    Nothing,
+}
+
+// What a call does to its tag's row.
+pub(crate) enum Posting {
+    AddUsage(u64, u64),
+    RemoveUsage(u64, u64),
+    Reserve(u64),
+    Unreserve(u64),
+    SetCap(Cap),
+    Nothing,
+}
+
+// Two header blocks and the data.
+pub fn extent_len(data_size: u64, block: u64) -> ExtentLen
+    ensures { λ r. ⌜ lenOf r ≡ extentLen «data_size» block ⌝ }
+{
+    if passes(block, block, TOP) {
+        return ExtentLen::Nothing;
+    }
+    if passes(2 * block, data_size, TOP) {
+        return ExtentLen::Nothing;
+    }
+    ExtentLen::Bytes(2 * block + data_size)
+}
+
+// A refusal before anything is counted.
+pub(crate) fn refused(refusal: u64) -> Posted
+    ensures { λ r. ⌜ r ≡ record { refusal = refusal; accounts = accountsOf noTags } ⌝ }
+{
+    Posted {
+        refusal,
+        accounts: Accounting::empty(),
+    }
+}
+
+impl Accounting {
+    // The accounts of no tag.
+    pub fn empty() -> Accounting
+        ensures { λ r. ⌜ r ≡ accountsOf noTags ⌝ }
+    {
+        let blank = TagSpace::blank(0);
+        Accounting {
+            rows: [blank; 96],
+            count: 0,
+            reserved: 0,
+        }
+    }
+
+    // The accounts of a region table, by its Ready entries. Their states, tags and data sizes stand in
+    // three lists.
+    pub fn from_entries(states: &[u8], tags: &[u32], data_sizes: &[u64], block: u64) -> Posted
+        ensures { λ r. ⌜ Counts (differ (now (tags .entry)) (now (states .entry)) (now («data_sizes» .entry))) (readyUsages block (now (states .entry)) (now (tags .entry)) (now («data_sizes» .entry))) r ⌝ }
+    {
+        if tags.len() != states.len() {
+            return refused(1);
+        }
+        if tags.len() != data_sizes.len() {
+            return refused(1);
+        }
+        count_entries(states, tags, data_sizes, block)
+    }
+
+    // The accounts of regions. Their tags, data bytes and occupied bytes stand in three lists.
+    pub fn from_usage(tags: &[u32], logical: &[u64], physical: &[u64]) -> Posted
+        ensures { λ r. ⌜ Counts (differ (now (tags .entry)) (now (logical .entry)) (now (physical .entry))) (usages (now (tags .entry)) (now (logical .entry)) (now (physical .entry))) r ⌝ }
+    {
+        if tags.len() != logical.len() {
+            return refused(1);
+        }
+        if tags.len() != physical.len() {
+            return refused(1);
+        }
+        count_usage(tags, logical, physical)
+    }
+
+    // Counts a region of a tag.
+    pub fn add_usage(self, tag: u32, logical: u64, physical: u64) -> Posted
+        ensures { λ r. ⌜ Posts self (onRow tag (addUsage logical physical)) r ⌝ }
+    {
+        self.post(tag, Posting::AddUsage(logical, physical))
+    }
+
+    // Stops counting a region of a tag.
+    pub fn remove_usage(self, tag: u32, logical: u64, physical: u64) -> Posted
+        ensures { λ r. ⌜ Posts self (onRow tag (removeUsage logical physical)) r ⌝ }
+    {
+        self.post(tag, Posting::RemoveUsage(logical, physical))
+    }
+
+    // Counts a table entry.
+    pub fn add(self, tag: u32, data_size: u64, block: u64) -> Posted
+        ensures { λ r. ⌜ Posts self (onRow tag (addUsage «data_size» (addedLen «data_size» block))) r ⌝ }
+    {
+        self.add_usage(tag, data_size, extent_len_or(data_size, block, TOP))
+    }
+
+    // Stops counting a table entry.
+    pub fn remove(self, tag: u32, data_size: u64, block: u64) -> Posted
+        ensures { λ r. ⌜ Posts self (onRow tag (removeUsage «data_size» (removedLen «data_size» block))) r ⌝ }
+    {
+        self.remove_usage(tag, data_size, extent_len_or(data_size, block, 0))
+    }
+
+    // Whether extra bytes more are within a tag's cap.
+    pub fn fits(self, tag: u32, extra: u64) -> Asked
+        ensures { λ r. ⌜ Asks self tag extra r ⌝ }
+    {
+        let p = self.post(tag, Posting::Nothing);
+        let accounts = p.accounts;
+        if p.refusal != 0 {
+            return Asked {
+                refusal: p.refusal,
+                fits: false,
+                accounts,
+            };
+        }
+        let row = self.row(tag);
+        Asked {
+            refusal: 0,
+            fits: row.fits(extra),
+            accounts,
+        }
+    }
+
+    // Reserves bytes for a tag.
+    pub fn reserve(self, tag: u32, bytes: u64) -> Posted
+        ensures { λ r. ⌜ Posts self (reserving tag bytes) r ⌝ }
+    {
+        let p = self.post(tag, Posting::Reserve(bytes));
+        if p.refusal != 0 {
+            return p;
+        }
+        let mut accounts = p.accounts;
+        accounts.reserved = add_stop(self.reserved, bytes);
+        Posted {
+            refusal: 0,
+            accounts,
+        }
+    }
+
+    // Takes back bytes that were reserved for a tag.
+    pub fn unreserve(self, tag: u32, bytes: u64) -> Posted
+        ensures { λ r. ⌜ Posts self (unreserving tag bytes) r ⌝ }
+    {
+        let p = self.post(tag, Posting::Unreserve(bytes));
+        if p.refusal != 0 {
+            return p;
+        }
+        let mut accounts = p.accounts;
+        accounts.reserved = sub_stop(self.reserved, bytes);
+        Posted {
+            refusal: 0,
+            accounts,
+        }
+    }
+
+    // Sets a tag's cap, or clears it.
+    pub fn set_cap(self, tag: u32, cap: Cap) -> Posted
+        ensures { λ r. ⌜ Posts self (onRow tag (setCap cap)) r ⌝ }
+    {
+        self.post(tag, Posting::SetCap(cap))
+    }
+
+    // Bytes reserved and not yet provisioned, all tags.
+    pub fn reserved(self) -> u64
+        ensures { λ r. ⌜ r ≡ tableOf self .total ⌝ }
+    {
+        self.reserved
+    }
+
+    // The row of a tag, a blank one where it has none.
+    pub fn row(self, tag: u32) -> TagSpace
+        ensures { λ r. ⌜ (Valid self → r ≡ rowOf tag (tableOf self .rows)) ⌝ }
+    {
+        let count = self.count;
+        if count > MOST {
+            return TagSpace::blank(tag);
+        }
+        let at = self.place(tag);
+        if at > 0 {
+            let row = self.rows[at - 1];
+            if row.tag == tag {
+                return row;
+            }
+        }
+        TagSpace::blank(tag)
+    }
+
+    // The row at a place in tag order, a blank one behind the last.
+    pub fn row_at(self, i: usize) -> TagSpace
+        ensures { λ r. ⌜ (Valid self → r ≡ getD (tableOf self .rows) i (blank 0)) ⌝ }
+    {
+        if i < MOST {
+            return self.rows[i];
+        }
+        TagSpace::blank(0)
+    }
+}
