@@ -199,7 +199,7 @@ pub fn compare(random: &mut Random) -> Result<usize, String> {
     let mut try_sequence = |s: &Sequence| check(s, &mut tally);
     every::compare(&mut try_sequence)?;
     draw::compare(random, &mut try_sequence)?;
-    let lens = every::extent_lens(random)?;
+    let lens = every::extent_lens(random)? + every::blanks(random)?;
     let others = listed::compare()? + each::compare(random)? + foreign::compare(random)?;
     Ok(tally.all_seen()? + lens + others)
 }

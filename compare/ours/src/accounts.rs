@@ -80,6 +80,19 @@ unsafe extern "C" {
     pub safe fn row(a: Accounts, tag: u32) -> Row;
     #[link_name = "fundravai_accounts_row_at"]
     pub safe fn row_at(a: Accounts, i: usize) -> Row;
+    #[link_name = "fundravai_row_blank"]
+    pub safe fn row_blank(tag: u32) -> Row;
+    #[link_name = "fundravai_row_add_usage"]
+    pub safe fn row_add_usage(row: Row, logical: u64, physical: u64) -> Row;
+    #[link_name = "fundravai_row_remove_usage"]
+    pub safe fn row_remove_usage(row: Row, logical: u64, physical: u64) -> Row;
+    #[link_name = "fundravai_row_reserve"]
+    pub safe fn row_reserve(row: Row, bytes: u64) -> Row;
+    #[link_name = "fundravai_row_unreserve"]
+    pub safe fn row_unreserve(row: Row, bytes: u64) -> Row;
+    #[link_name = "fundravai_row_fits"]
+    pub safe fn row_fits(row: Row, extra: u64) -> bool;
+    safe fn fundravai_row_set_cap(row: Row, capped: bool, cap: u64) -> Row;
     safe fn fundravai_accounts_set_cap(a: Accounts, tag: u32, capped: bool, cap: u64) -> Posted;
     safe fn fundravai_extent_len(data_size: u64, block: u64) -> FlatOption;
     fn fundravai_accounts_from_entries(
@@ -128,6 +141,10 @@ unsafe extern "C" {
 
 pub fn set_cap(a: Accounts, tag: u32, cap: Option<u64>) -> Posted {
     fundravai_accounts_set_cap(a, tag, cap.is_some(), cap.unwrap_or(0))
+}
+
+pub fn row_set_cap(row: Row, cap: Option<u64>) -> Row {
+    fundravai_row_set_cap(row, cap.is_some(), cap.unwrap_or(0))
 }
 
 pub fn extent_len(data_size: u64, block: u64) -> Option<u64> {

@@ -10,7 +10,7 @@ use accounting::TagSpace;
 ghost use mathlib.Core.Path.{_≡_};
 ghost use lib.ListN.{getD};
 ghost use Rattle.accounting.specs.Entries.{Counts, noTags, usages, readyUsages, differ, extentLen, addedLen, removedLen};
-ghost use Rattle.accounting.specs.Row.{blank, addUsage, removeUsage, setCap};
+ghost use Rattle.accounting.specs.Row.{blank, addUsage, removeUsage, reserve, unreserve, setCap, fits};
 ghost use Rattle.accounting.specs.Table.{Valid, Posts, Asks, accountsOf, tableOf, onRow, reserving, unreserving, rowOf};
 ghost use Rattle.exports.specs.Flat.{flatOf};
 ghost use Rattle.exports.specs.Accounts.{capFrom, rowFrom, accountsFrom, flatRow, flatAccounts, flatPosted, flatAsked, FlatPosts, FlatAsks};
@@ -301,6 +301,64 @@ pub extern "C" fn fundravai_accounts_row_at(flat: FlatAccounting, i: usize) -> F
 {
     let accounts = accounts_from(flat);
     flat_row(accounts.row_at(i))
+}
+
+// One tag's row by itself.
+
+#[no_mangle]
+pub extern "C" fn fundravai_row_blank(tag: u32) -> FlatRow
+    ensures { λ r. ⌜ r ≡ flatRow (blank tag) ⌝ }
+{
+    flat_row(TagSpace::blank(tag))
+}
+
+#[no_mangle]
+pub extern "C" fn fundravai_row_add_usage(flat: FlatRow, logical: u64, physical: u64) -> FlatRow
+    ensures { λ r. ⌜ r ≡ flatRow (addUsage logical physical (rowFrom flat)) ⌝ }
+{
+    let row = row_from(flat);
+    flat_row(row.add_usage(logical, physical))
+}
+
+#[no_mangle]
+pub extern "C" fn fundravai_row_remove_usage(flat: FlatRow, logical: u64, physical: u64) -> FlatRow
+    ensures { λ r. ⌜ r ≡ flatRow (removeUsage logical physical (rowFrom flat)) ⌝ }
+{
+    let row = row_from(flat);
+    flat_row(row.remove_usage(logical, physical))
+}
+
+#[no_mangle]
+pub extern "C" fn fundravai_row_reserve(flat: FlatRow, bytes: u64) -> FlatRow
+    ensures { λ r. ⌜ r ≡ flatRow (reserve bytes (rowFrom flat)) ⌝ }
+{
+    let row = row_from(flat);
+    flat_row(row.reserve(bytes))
+}
+
+#[no_mangle]
+pub extern "C" fn fundravai_row_unreserve(flat: FlatRow, bytes: u64) -> FlatRow
+    ensures { λ r. ⌜ r ≡ flatRow (unreserve bytes (rowFrom flat)) ⌝ }
+{
+    let row = row_from(flat);
+    flat_row(row.unreserve(bytes))
+}
+
+#[no_mangle]
+pub extern "C" fn fundravai_row_set_cap(flat: FlatRow, capped: bool, limit: u64) -> FlatRow
+    ensures { λ r. ⌜ r ≡ flatRow (setCap (capFrom capped limit) (rowFrom flat)) ⌝ }
+{
+    let row = row_from(flat);
+    let cap = cap_from(capped, limit);
+    flat_row(row.set_cap(cap))
+}
+
+#[no_mangle]
+pub extern "C" fn fundravai_row_fits(flat: FlatRow, extra: u64) -> bool
+    ensures { λ r. ⌜ r ≡ fits extra (rowFrom flat) ⌝ }
+{
+    let row = row_from(flat);
+    row.fits(extra)
 }
 
 // The next three are for the benchmark, where putting the accounts into flat numbers and back would

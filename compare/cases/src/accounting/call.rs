@@ -105,6 +105,11 @@ impl Call {
         }
     }
 
+    /// Whether there is such a call on a tag's row by itself.
+    pub fn is_on_row(&self) -> bool {
+        self.tag().is_some() && !matches!(self, Self::Add { .. } | Self::Remove { .. })
+    }
+
     /// The tags that its lists count.
     pub fn counted(&self) -> Vec<u32> {
         match self {

@@ -41,8 +41,7 @@ pub fn compare(random: &mut Random) -> Result<usize, String> {
             physical: &physical,
         };
         let added = single(accounts::empty(), usages, accounts::add_usage);
-        let alike = accounts::add_usage_each(accounts::empty(), usages) == added;
-        if !alike {
+        if accounts::add_usage_each(accounts::empty(), usages) != added {
             return Err(format!("add_usage_each of {some:?} differs"));
         }
         let removed = single(added.accounts, usages, accounts::remove_usage);

@@ -8,7 +8,7 @@ use super::sequence::{
 use super::words::extent_len;
 use crate::random::{Random, limits};
 use oracle::accounts::entry;
-use ours::accounts::MOST;
+use ours::accounts::{MOST, Row, row_blank};
 
 const MAX: u64 = u64::MAX;
 
@@ -178,6 +178,23 @@ pub fn compare(check: Check) -> Result<(), String> {
     full(check)?;
     uneven(check)?;
     listed(check)
+}
+
+/// A tag's blank row by itself, which is no more than its tag.
+pub fn blanks(random: &mut Random) -> Result<usize, String> {
+    let tags = [0, 1, LAST_TAG - 1, LAST_TAG];
+    let others = (0..1000).map(|_| random.next() as u32);
+    for tag in tags.into_iter().chain(others) {
+        let blank = Row {
+            tag,
+            ..Row::default()
+        };
+        let ours = row_blank(tag);
+        if ours != blank {
+            return Err(format!("the blank row of {tag} is {ours:?}"));
+        }
+    }
+    Ok(1004)
 }
 
 /// `extent_len` by the Rust, by document 01's words and by ours: how many cases ran, or one on which

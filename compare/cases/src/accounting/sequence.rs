@@ -4,6 +4,7 @@ use super::call::{Call, resized};
 use super::sides::{Answer, Difference, Probe, Sides};
 use crate::shrink::{at_distance, deadline, distance, shrink_until};
 use ours::accounts::{Accounts, Row};
+use std::collections::BTreeSet;
 
 const MAX: u64 = u64::MAX;
 
@@ -193,6 +194,22 @@ impl Sequence {
         }
     }
 
+    /// The same with the least tags that are in the same order.
+    fn renumbered(&self) -> Self {
+        let mut small = self.clone();
+        let calls = small.calls.chunks_exact_mut(WIDTH);
+        let of_calls = calls
+            .filter(|told| told[0] >= ADD_USAGE)
+            .map(|told| &mut told[1]);
+        let of_lists = small.usages.chunks_exact_mut(3).map(|usage| &mut usage[0]);
+        let tags: Vec<&mut u64> = of_calls.chain(of_lists).collect();
+        let order: BTreeSet<u64> = tags.iter().map(|tag| **tag).collect();
+        for tag in tags {
+            *tag = order.range(..*tag).count() as u64;
+        }
+        small
+    }
+
     fn part(&mut self, k: usize) -> &mut Vec<u64> {
         match k {
             0 => &mut self.calls,
@@ -214,6 +231,10 @@ impl Sequence {
                 };
                 let part = small.clone().part(k).clone();
                 *small.part(k) = shrink_until(end, part, unit, differs);
+            }
+            let renumbered = small.renumbered();
+            if renumbered.run(|_, _, _| ()).is_err() {
+                small = renumbered;
             }
             if small == before {
                 return small;

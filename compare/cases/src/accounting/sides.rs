@@ -18,6 +18,8 @@ pub struct Answer {
     /// The rows of the two tags that are asked for.
     pub rows: [Row; 2],
     pub row_at: Row,
+    /// What the call makes of its tag's row by itself, and whether the bytes fit.
+    pub alone: Option<(Row, bool)>,
 }
 
 /// Which rows are read after a call: those of two tags, and the one at a place.
@@ -65,8 +67,14 @@ pub fn flat(rust: &mut Rust) -> Accounts {
     }
 }
 
-/// What is read of accounts: the rows in order up to the count.
-fn read(refusal: u64, fits: bool, handed: Accounts, left: &Accounts, probe: Probe) -> Answer {
+/// What is read of the accounts that a call leaves: the rows in order up to the count. The probe's
+/// first tag is the call's.
+fn read(
+    call: &Call,
+    (refusal, fits, handed): (u64, bool, Accounts),
+    left: &Accounts,
+    probe: Probe,
+) -> Answer {
     let rows = &left.rows[..left.count];
     let of = |tag: u32| Row {
         tag,
@@ -80,6 +88,7 @@ fn read(refusal: u64, fits: bool, handed: Accounts, left: &Accounts, probe: Prob
         reserved: left.reserved,
         rows: probe.tags.map(row),
         row_at: rows.get(probe.place).copied().unwrap_or_default(),
+        alone: (refusal == 0 && call.is_on_row()).then(|| (row(probe.tags[0]), fits)),
     }
 }
 
@@ -195,6 +204,24 @@ pub fn by_ours(a: Accounts, call: &Call) -> (u64, bool, Accounts) {
     (refusal, false, accounts)
 }
 
+/// Does a call on a tag's row by itself, where there is such a call.
+fn by_row(row: Row, call: &Call) -> Option<(Row, bool)> {
+    let after = match *call {
+        Call::AddUsage {
+            logical, physical, ..
+        } => accounts::row_add_usage(row, logical, physical),
+        Call::RemoveUsage {
+            logical, physical, ..
+        } => accounts::row_remove_usage(row, logical, physical),
+        Call::Reserve { bytes, .. } => accounts::row_reserve(row, bytes),
+        Call::Unreserve { bytes, .. } => accounts::row_unreserve(row, bytes),
+        Call::SetCap { cap, .. } => accounts::row_set_cap(row, cap),
+        Call::Fits { extra, .. } => return Some((row, accounts::row_fits(row, extra))),
+        _ => return None,
+    };
+    Some((after, false))
+}
+
 impl Sides {
     pub fn new() -> Self {
         let mut rust = Rust::default();
@@ -228,14 +255,15 @@ impl Sides {
                 Some(_) => self.due,
                 None => flat(&mut Rust::default()),
             };
-            return read(refusal, false, handed, &self.due, probe);
+            return read(call, (refusal, false, handed), &self.due, probe);
         }
         let fits = by_rust(&mut self.rust, call);
         self.due = flat(&mut self.rust);
-        read(0, fits, self.due, &self.due, probe)
+        read(call, (0, fits, self.due), &self.due, probe)
     }
 
     pub fn ask_ours(&mut self, call: &Call, probe: Probe) -> Answer {
+        let before = accounts::row(self.ours, probe.tags[0]);
         let (refusal, fits, handed) = by_ours(self.ours, call);
         if refusal == 0 || call.tag().is_some() {
             self.ours = handed;
@@ -247,6 +275,11 @@ impl Sides {
             reserved: accounts::reserved(self.ours),
             rows: probe.tags.map(|tag| accounts::row(self.ours, tag)),
             row_at: accounts::row_at(self.ours, probe.place),
+            alone: if refusal == 0 {
+                by_row(before, call)
+            } else {
+                None
+            },
         }
     }
 
@@ -257,7 +290,7 @@ impl Sides {
         if !refused {
             let fits = self.words.call(call);
             let flat = self.words.flat();
-            let words = read(0, fits, flat, &flat, probe);
+            let words = read(call, (0, fits, flat), &flat, probe);
             if words != due {
                 return Err(Box::new(("document 01 says", words, "the Rust gives", due)));
             }
