@@ -6,27 +6,18 @@ use mathlib.Core.Path.{_≡_, ap, sym, subst, _∙_}
 use native.Mathlib.Omega.{arith}
 use lib.ListN.{length, getD, drop, drop-of-length-le}
 use lib.Seq.{drop-cons, drop-drop, getD-drop}
-use borrow.Author.Tests.{lt-ltb, le-ltb, eq-eqb, ne-eqb}
+use borrow.Author.Tests.{eq-eqb, ne-eqb}
 use Rattle.accounting.specs.Entries.{Usage, Counts, usage, usages, readyUsages, addedLen, addAll, noTags, differ}
 use Rattle.accounting.specs.Row.{addUsage}
-use Rattle.accounting.specs.Table.{Table, InTagOrder, Valid, Posts, accountsOf, tableOf, put, onRow}
+use Rattle.accounting.specs.Table.{Table, InTagOrder, Valid, Posts, accountsOf, tableOf, onRow}
 use Rattle.accounting.specs.declared.Accounting.{Accounting}
 use Rattle.accounting.specs.declared.Posted.{Posted}
-use Rattle.accounting.specs.declared.TagSpace.{TagSpace}
 use Rattle.accounting.proofs.Handing.{handed-fit, handed-full, on-row-order}
+use Rattle.accounting.proofs.Rows.{put-more}
 use Rattle.accounting.proofs.Tables.{table-accounts, accounts-valid, count-rows}
-use Rattle.numbers.proofs.Cases.{by-lt, by-eq}
+use Rattle.numbers.proofs.Cases.{by-lt}
 
 -- ---- the rows grow no fewer
-
-put-more : (x : TagSpace) (rs : List TagSpace) → length rs ≤ length (put x rs)
-unfolding put
-put-more x [] = omega arith
-put-more x (r ∷ rs) =
-    by-lt (r .tag) (x .tag) (λ l. simp (lt-ltb (r .tag) (x .tag) l) (let h = put-more x rs in omega (arith, h)))
-    (λ l.
-    by-eq (r .tag) (x .tag) (λ e. simp (le-ltb (r .tag) (x .tag) l, eq-eqb (r .tag) (x .tag) e) (omega arith))
-    (λ e. simp (le-ltb (r .tag) (x .tag) l, ne-eqb (r .tag) (x .tag) e) (omega arith)))
 
 add-more : (us : List Usage) (t : Table) → length (t .rows) ≤ length (addAll us t .rows)
 unfolding addAll onRow

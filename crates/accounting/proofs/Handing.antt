@@ -1,25 +1,26 @@
 -- What a posting hands back: of a tag that has a row, of one that has none, and of a 97th.
 use Prim.Native.Nat.{ℕ, suc, _+_, _-_, _≤_, _<_}
-use mathlib.Core.Bool.{Bool, false}
+use mathlib.Core.Bool.{Bool, true, false, and-true}
 use mathlib.Core.List.{List, _∷_, _++_}
 use mathlib.Core.Path.{_≡_, refl, ap, sym, subst, _∙_}
 use native.Mathlib.Omega.{arith}
+use lib.Dec.{eqb}
 use lib.ListN.{length, getD, take, drop, set, replicate, length-append, length-take, length-drop, length-set}
-use lib.Seq.{set-append-left}
-use borrow.Author.Tests.{lt-ltb, le-ltb, ne-eqb}
-use Rattle.accounting.specs.Inner.{posted, tagsOf, shifted}
-use Rattle.accounting.specs.Row.{blank, fits}
-use Rattle.accounting.specs.Table.{Table, InTagOrder, Valid, Posts, Asks, accountsOf, tableOf, rowOf, put, onRow, withTotal, same, handed}
+use lib.Seq.{set-append-left, set-getD}
+use borrow.Author.Tests.{lt-ltb, le-ltb, eq-eqb, ne-eqb}
+use Rattle.accounting.specs.Inner.{Sought, posted, shifted, inserted}
+use Rattle.accounting.specs.Row.{blank, allows, fits}
+use Rattle.accounting.specs.Table.{Table, InTagOrder, Valid, Posts, Asks, accountsOf, tableOf, rowOf, put, onRow, withTotal, same, handed, asked}
 use Rattle.accounting.specs.declared.Accounting.{Accounting}
 use Rattle.accounting.specs.declared.Posted.{Posted}
 use Rattle.accounting.specs.declared.Posting.{Posting}
-use Rattle.accounting.specs.declared.Posting.the-variants.{AddUsage, RemoveUsage, Reserve, Unreserve, SetCap, Nothing}
+use Rattle.accounting.specs.declared.Posting.the-variants.{AddUsage, RemoveUsage, Reserve, Unreserve, SetCap}
 use Rattle.accounting.specs.declared.TagSpace.{TagSpace}
-use Rattle.numbers.specs.Search.{Found}
+use Rattle.accounting.specs.declared.table.Spot.{Spot}
 use Rattle.accounting.proofs.Rows.{row-known, put-known, row-unknown, put-unknown, put-order}
 use Rattle.accounting.proofs.Shifting.{shifted-blanks}
-use Rattle.accounting.proofs.Tables.{accounts-valid, count-rows, all-rows, row-of-record, place-in, rows-lower, rows-higher}
-use Rattle.numbers.proofs.Cases.{by-lt}
+use Rattle.accounting.proofs.Tables.{accounts-valid, count-rows, all-rows, row-of-record}
+use Rattle.numbers.proofs.Cases.{by-lt, by-eq}
 
 -- a rule that leaves the tag as it is
 abbrev pub KeepsTag : (TagSpace → TagSpace) → Type 0
@@ -60,7 +61,21 @@ made-of : (rs : List TagSpace) (n m : ℕ) (t : Table) → rs ≡ t .rows ++ rep
 unfolding accountsOf
 made-of rs n m t p q s = rw (p, q, s)
 
-module _ (a : Accounting) (v : Valid a) (tag k : ℕ) (f : Found (tagsOf a) (a .count) tag k) where
+-- one row more, by how many there are
+module _ (k : ℕ) (x : TagSpace) (a : Accounting) where
+  pub inserted-many : 96 < a .count → inserted k x a ≡ record { refusal = 1; accounts = a }
+  unfolding inserted
+  inserted-many h = simp (lt-ltb 96 (a .count) h)
+
+  pub inserted-full : a .count ≡ 96 → inserted k x a ≡ record { refusal = 19; accounts = a }
+  unfolding inserted
+  inserted-full e = simp (le-ltb 96 (a .count) (omega arith), eq-eqb (a .count) 96 e)
+
+  pub inserted-room : a .count < 96 → inserted k x a ≡ record { refusal = 0; accounts = record { rows = shifted k (a .count) x (a .rows); count = a .count + 1; reserved = a .reserved } }
+  unfolding inserted
+  inserted-room h = simp (le-ltb 96 (a .count) (omega arith), ne-eqb (a .count) 96 (λ e. omega (arith, e, h)))
+
+module _ (a : Accounting) (v : Valid a) (tag : ℕ) (s : Spot) (f : Sought a tag s) where
   abbrev xs : List TagSpace
   xs = tableOf a .rows
 
@@ -68,69 +83,79 @@ module _ (a : Accounting) (v : Valid a) (tag k : ℕ) (f : Found (tagsOf a) (a .
   unfolding tableOf
   reserved-total = refl
 
-  -- the row in front of the place has the tag
-  module _ (h : 0 < k) (e : getD (a .rows) (k - 1) (blank 0) .tag ≡ tag) where
-    in-rows : k - 1 < length xs
-    in-rows = let p = place-in a v tag k f in omega (arith, p)
+  place-in : s .at ≤ length xs
+  place-in = let c = count-rows a v in omega (arith, c, f .inside)
 
-    has-tag : getD xs (k - 1) (blank 0) .tag ≡ tag
-    has-tag = subst (λ (r : TagSpace). r .tag ≡ tag) (row-of-record a v (k - 1)) e
+  -- the tag has a row
+  module _ (z : s .known ≡ true) where
+    in-rows : s .at < length xs
+    in-rows = let c = count-rows a v in let h = f .few z in omega (arith, c, h .1)
 
-    pub found-row : rowOf tag xs ≡ getD (a .rows) (k - 1) (blank 0)
-    found-row = row-known xs (v .order) (k - 1) tag (blank 0) in-rows has-tag ∙ sym (row-of-record a v (k - 1))
+    has-tag : getD xs (s .at) (blank 0) .tag ≡ tag
+    has-tag = subst (λ (r : TagSpace). r .tag ≡ tag) (row-of-record a v (s .at)) (f .own z)
 
-    pub post-known : (rule : TagSpace → TagSpace) → KeepsTag rule → (x : TagSpace) → x ≡ rule (getD (a .rows) (k - 1) (blank 0)) → record { refusal = 0; accounts = record { rows = set (a .rows) (k - 1) x; count = a .count; reserved = a .reserved } } ≡ handed (tableOf a) (onRow tag rule (tableOf a))
+    pub found-row : rowOf tag xs ≡ getD (a .rows) (s .at) (blank 0)
+    found-row = row-known xs (v .order) (s .at) tag (blank 0) in-rows has-tag ∙ sym (row-of-record a v (s .at))
+
+    pub post-known : (rule : TagSpace → TagSpace) → KeepsTag rule → (x : TagSpace) → x ≡ rule (getD (a .rows) (s .at) (blank 0)) → record { refusal = 0; accounts = record { rows = set (a .rows) (s .at) x; count = a .count; reserved = a .reserved } } ≡ handed (tableOf a) (onRow tag rule (tableOf a))
     unfolding onRow
     post-known rule keeps x q =
-        let t : x .tag ≡ tag = ap (λ (r : TagSpace). r .tag) q ∙ keeps (getD (a .rows) (k - 1) (blank 0)) ∙ e in
-        let p : put (rule (rowOf tag xs)) xs ≡ set xs (k - 1) x = ap (λ (r : TagSpace). put (rule r) xs) found-row ∙ ap (λ (r : TagSpace). put r xs) (sym q) ∙ put-known xs (v .order) (k - 1) tag (blank 0) in-rows has-tag x t in
-        let n : length (put (rule (rowOf tag xs)) xs) ≡ length xs = ap length p ∙ length-set xs (k - 1) x in
+        let t : x .tag ≡ tag = ap (λ (r : TagSpace). r .tag) q ∙ keeps (getD (a .rows) (s .at) (blank 0)) ∙ f .own z in
+        let p : put (rule (rowOf tag xs)) xs ≡ set xs (s .at) x = ap (λ (r : TagSpace). put (rule r) xs) found-row ∙ ap (λ (r : TagSpace). put r xs) (sym q) ∙ put-known xs (v .order) (s .at) tag (blank 0) in-rows has-tag x t in
+        let n : length (put (rule (rowOf tag xs)) xs) ≡ length xs = ap length p ∙ length-set xs (s .at) x in
         let c = count-rows a v in
         ap (λ (b : Accounting). record { refusal = 0; accounts = b })
-        (made-of (set (a .rows) (k - 1) x) (a .count) (a .reserved) (onRow tag rule (tableOf a))
-        (ap (λ (l : List TagSpace). set l (k - 1) x) (all-rows a v) ∙ set-append-left xs (replicate (96 - length xs) (blank 0)) (k - 1) x in-rows ∙ rw (n, p))
+        (made-of (set (a .rows) (s .at) x) (a .count) (a .reserved) (onRow tag rule (tableOf a))
+        (ap (λ (l : List TagSpace). set l (s .at) x) (all-rows a v) ∙ set-append-left xs (replicate (96 - length xs) (blank 0)) (s .at) x in-rows ∙ rw (n, p))
         (c ∙ sym n) reserved-total)
         ∙ sym (handed-fit (tableOf a) (onRow tag rule (tableOf a)) (omega (arith, n, c, v .few)))
 
-  -- no row has it
-  module _ (other : 0 < k → getD (a .rows) (k - 1) (blank 0) .tag ≡ tag → ⊥) where
-    not-there : 0 < k → getD xs (k - 1) (blank 0) .tag ≡ tag → ⊥
-    not-there h e = other h (subst (λ (r : TagSpace). r .tag ≡ tag) (sym (row-of-record a v (k - 1))) e)
+    -- and is only asked for
+    pub asked-known : record { refusal = 0; accounts = a } ≡ handed (tableOf a) (onRow tag same (tableOf a))
+    asked-known = ap (λ (l : List TagSpace). record { refusal = 0; accounts = record { rows = l; count = a .count; reserved = a .reserved } }) (sym (set-getD (a .rows) (s .at) (blank 0))) ∙ post-known same (λ r. refl) (getD (a .rows) (s .at) (blank 0)) refl
 
+  -- it has none
+  module _ (z : s .known ≡ false) where
     pub no-row : rowOf tag xs ≡ blank tag
-    no-row = row-unknown xs k tag (rows-lower a v tag k f not-there) (rows-higher a v tag k f not-there)
+    no-row = row-unknown xs (s .at) tag (f .lower z v) (f .higher z v)
 
-    module _ (rule : TagSpace → TagSpace) (keeps : KeepsTag rule) where
-      put-new : (x : TagSpace) → x ≡ rule (blank tag) → put (rule (rowOf tag xs)) xs ≡ take k xs ++ (x ∷ drop k xs)
-      put-new x q =
+    module _ (rule : TagSpace → TagSpace) (keeps : KeepsTag rule) (x : TagSpace) (q : x ≡ rule (blank tag)) where
+      put-new : put (rule (rowOf tag xs)) xs ≡ take (s .at) xs ++ (x ∷ drop (s .at) xs)
+      put-new =
           ap (λ (r : TagSpace). put (rule r) xs) no-row
           ∙ ap (λ (r : TagSpace). put r xs) (sym q)
-          ∙ put-unknown xs k tag (rows-lower a v tag k f not-there) (rows-higher a v tag k f not-there) x (ap (λ (r : TagSpace). r .tag) q ∙ keeps (blank tag))
+          ∙ put-unknown xs (s .at) tag (f .lower z v) (f .higher z v) x (ap (λ (r : TagSpace). r .tag) q ∙ keeps (blank tag))
 
       one-more : length (put (rule (rowOf tag xs)) xs) ≡ suc (length xs)
-      one-more = ap length (put-new (rule (blank tag)) refl) ∙ simp (length-append, length-take, length-drop) (let p = place-in a v tag k f in omega (arith, p))
+      one-more = ap length put-new ∙ simp (length-append, length-take, length-drop) (omega (arith, place-in))
 
-      pub post-full : a .count ≡ 96 → record { refusal = 19; accounts = a } ≡ handed (tableOf a) (onRow tag rule (tableOf a))
+      -- a 97th tag
+      post-full : a .count ≡ 96 → record { refusal = 19; accounts = a } ≡ handed (tableOf a) (onRow tag rule (tableOf a))
       unfolding onRow
       post-full h =
           let c = count-rows a v in
           ap (λ (b : Accounting). record { refusal = 19; accounts = b }) (v .record-of)
           ∙ sym (handed-full (tableOf a) (onRow tag rule (tableOf a)) (let n = one-more in omega (arith, n, c, h)))
 
-      pub post-new : a .count < 96 → (x : TagSpace) → x ≡ rule (blank tag) → record { refusal = 0; accounts = record { rows = shifted k (a .count) x (a .rows); count = a .count + 1; reserved = a .reserved } } ≡ handed (tableOf a) (onRow tag rule (tableOf a))
+      post-new : a .count < 96 → record { refusal = 0; accounts = record { rows = shifted (s .at) (a .count) x (a .rows); count = a .count + 1; reserved = a .reserved } } ≡ handed (tableOf a) (onRow tag rule (tableOf a))
       unfolding onRow
-      post-new h x q =
+      post-new h =
           let c = count-rows a v in
           let n = one-more in
           let m : 96 - length xs ≡ suc (96 - suc (length xs)) = omega (arith, c, h) in
           ap (λ (b : Accounting). record { refusal = 0; accounts = b })
-          (made-of (shifted k (a .count) x (a .rows)) (a .count + 1) (a .reserved) (onRow tag rule (tableOf a))
-          (ap (λ (i : ℕ). shifted k i x (a .rows)) c
-          ∙ ap (λ (l : List TagSpace). shifted k (length xs) x l) (all-rows a v ∙ ap (λ (i : ℕ). xs ++ replicate i (blank 0)) m)
-          ∙ shifted-blanks xs (blank 0) x k (96 - suc (length xs)) (place-in a v tag k f)
-          ∙ rw (n, put-new x q))
+          (made-of (shifted (s .at) (a .count) x (a .rows)) (a .count + 1) (a .reserved) (onRow tag rule (tableOf a))
+          (ap (λ (i : ℕ). shifted (s .at) i x (a .rows)) c
+          ∙ ap (λ (l : List TagSpace). shifted (s .at) (length xs) x l) (all-rows a v ∙ ap (λ (i : ℕ). xs ++ replicate i (blank 0)) m)
+          ∙ shifted-blanks xs (blank 0) x (s .at) (96 - suc (length xs)) place-in
+          ∙ rw (n, put-new))
           (omega (arith, c, n)) reserved-total)
           ∙ sym (handed-fit (tableOf a) (onRow tag rule (tableOf a)) (omega (arith, n, c, h)))
+
+      pub post-unknown : inserted (s .at) x a ≡ handed (tableOf a) (onRow tag rule (tableOf a))
+      post-unknown =
+          by-eq (a .count) 96 (λ e. inserted-full (s .at) x a e ∙ post-full e)
+          (λ n. let h : a .count < 96 = omega (arith, v .few) in inserted-room (s .at) x a h ∙ post-new h)
 
 pub posted-keeps : (p : Posting) → KeepsTag (posted p)
 unfolding posted
@@ -139,7 +164,6 @@ posted-keeps (RemoveUsage l p) r = refl
 posted-keeps (Reserve b) r = refl
 posted-keeps (Unreserve b) r = refl
 posted-keeps (SetCap k) r = refl
-posted-keeps Nothing r = refl
 
 -- ---- the total beside the rows
 
@@ -176,17 +200,19 @@ module _ (a : Accounting) (next : Table → Table) (total : Table → ℕ) (p : 
 
 -- ---- `fits`
 
-module _ (a : Accounting) (tag extra : ℕ) (p : Posted) (g : Posts a (onRow tag same) p) where
-  pub asks-refused : (p .refusal ≡ 0 → ⊥) → Asks a tag extra (record { refusal = p .refusal; fits = false; accounts = p .accounts })
-  asks-refused n =
+module _ (a : Accounting) (tag extra : ℕ) (s : Spot) (f : Sought a tag s) where
+  asks : (p : Posted) (ok : Bool) → (Valid a → p ≡ handed (tableOf a) (onRow tag same (tableOf a))) → (Valid a → ok ≡ fits extra (rowOf tag (tableOf a .rows))) → Asks a tag extra (asked p ok)
+  asks p ok e q =
       record {
-        answer = λ v. rw (sym (g .answer v), ne-eqb (p .refusal) 0 n);
-        valid = g .valid;
+        answer = λ v. ap (λ (b : Bool). asked p b) (q v) ∙ ap (λ (b : Posted). asked b (fits extra (rowOf tag (tableOf a .rows)))) (e v);
+        valid = posts a (onRow tag same) p (on-row-order tag same) e .valid;
       }
 
-  pub asks-answered : p .refusal ≡ 0 → (ok : Bool) → (Valid a → ok ≡ fits extra (rowOf tag (tableOf a .rows))) → Asks a tag extra (record { refusal = 0; fits = ok; accounts = p .accounts })
-  asks-answered z ok q =
-      record {
-        answer = λ v. rw (sym (g .answer v), z, q v);
-        valid = g .valid;
-      }
+  pub asks-known : s .known ≡ true → (ok : Bool) → ok ≡ fits extra (getD (a .rows) (s .at) (blank 0)) → Asks a tag extra (record { refusal = 0; fits = ok; accounts = a })
+  asks-known z ok q = asks (record { refusal = 0; accounts = a }) ok (λ v. asked-known a v tag s f z) (λ v. q ∙ ap (fits extra) (sym (found-row a v tag s f z)))
+
+  pub asks-unknown : s .known ≡ false → (x : TagSpace) → x ≡ blank tag → (p : Posted) → p ≡ inserted (s .at) x a → Asks a tag extra (record { refusal = p .refusal; fits = eqb (p .refusal) 0; accounts = p .accounts })
+  unfolding fits allows
+  asks-unknown z x q p e =
+      subst (λ (b : Bool). Asks a tag extra (record { refusal = p .refusal; fits = b; accounts = p .accounts })) (and-true (eqb (p .refusal) 0))
+      (asks p true (λ v. e ∙ post-unknown a v tag s f z same (λ r. refl) x q) (λ v. ap (fits extra) (sym (no-row a v tag s f z))))

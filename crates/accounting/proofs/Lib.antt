@@ -3,4 +3,5 @@ pub mod Rows
 pub mod Tables
 pub mod Handing
 pub mod Counting
+pub mod Words
 mod Shifting

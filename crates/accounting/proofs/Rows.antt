@@ -1,5 +1,5 @@
 -- Rows in tag order: where a tag's row stands, and a row put in its place.
-use Prim.Native.Nat.{ℕ, zero, suc, _<_}
+use Prim.Native.Nat.{ℕ, zero, suc, _≤_, _<_}
 use mathlib.Core.List.{List, [], _∷_, _++_}
 use mathlib.Core.Path.{_≡_, refl, ap, sym, subst, _∙_}
 use native.Mathlib.Nat.{le-of-suc-le-suc, not-suc-le-zero}
@@ -7,50 +7,61 @@ use native.Mathlib.Omega.{arith}
 use lib.ListN.{length, getD, take, drop, set, take-append-drop}
 use lib.Seq.{set-split, split-at}
 use borrow.Author.Tests.{lt-ltb, le-ltb, eq-eqb, ne-eqb}
+use Rattle.accounting.specs.Inner.{Lower, Higher}
 use Rattle.accounting.specs.Row.{blank}
 use Rattle.accounting.specs.Table.{InTagOrder, rowOf, put}
 use Rattle.accounting.specs.declared.TagSpace.{TagSpace}
-use Rattle.numbers.specs.Lists.{All}
 use Rattle.numbers.proofs.Cases.{by-lt, by-eq}
 use Rattle.numbers.proofs.Lists.{all-at, all-imp}
 
 module _ (tag : ℕ) where
-  -- all tags are lower, or higher
-  abbrev pub Lower : List TagSpace → Type 0
-  Lower rs = All (λ (q : TagSpace). q .tag < tag) rs
-
-  abbrev pub Higher : List TagSpace → Type 0
-  Higher rs = All (λ (q : TagSpace). tag < q .tag) rs
-
-  row-front : (front rest : List TagSpace) → Lower front → rowOf tag (front ++ rest) ≡ rowOf tag rest
-  unfolding rowOf
-  row-front [] rest a = refl
-  row-front (r ∷ rs) rest a = simp (ne-eqb (r .tag) tag (λ e. omega (arith, e, a .0))) (row-front rs rest (a .1))
-
-  row-here : (r : TagSpace) (rs : List TagSpace) → r .tag ≡ tag → rowOf tag (r ∷ rs) ≡ r
+  pub row-here : (r : TagSpace) (rs : List TagSpace) → r .tag ≡ tag → rowOf tag (r ∷ rs) ≡ r
   unfolding rowOf
   row-here r rs e = simp (eq-eqb (r .tag) tag e)
 
-  row-behind : (rs : List TagSpace) → Higher rs → rowOf tag rs ≡ blank tag
+  pub row-later : (r : TagSpace) (rs : List TagSpace) → (r .tag ≡ tag → ⊥) → rowOf tag (r ∷ rs) ≡ rowOf tag rs
+  unfolding rowOf
+  row-later r rs n = simp (ne-eqb (r .tag) tag n)
+
+  row-front : (front rest : List TagSpace) → Lower tag front → rowOf tag (front ++ rest) ≡ rowOf tag rest
+  row-front [] rest a = refl
+  row-front (r ∷ rs) rest a = row-later r (rs ++ rest) (λ e. omega (arith, e, a .0)) ∙ row-front rs rest (a .1)
+
+  row-behind : (rs : List TagSpace) → Higher tag rs → rowOf tag rs ≡ blank tag
   unfolding rowOf
   row-behind [] a = refl
-  row-behind (r ∷ rs) a = simp (ne-eqb (r .tag) tag (λ e. omega (arith, e, a .0))) (row-behind rs (a .1))
+  row-behind (r ∷ rs) a = row-later r rs (λ e. omega (arith, e, a .0)) ∙ row-behind rs (a .1)
+
+by-order : {P : Type 0} (m n : ℕ) → (m < n → P) → (m ≡ n → P) → (n < m → P) → P
+by-order m n f g h = by-lt m n f (λ l. by-eq m n g (λ e. h (omega arith)))
+
+module _ (x r : TagSpace) (rs : List TagSpace) where
+  -- put in front of a row with a lower tag, with the same, and with a higher
+  pub put-lower : r .tag < x .tag → put x (r ∷ rs) ≡ r ∷ put x rs
+  unfolding put
+  put-lower h = simp (lt-ltb (r .tag) (x .tag) h)
+
+  pub put-here : r .tag ≡ x .tag → put x (r ∷ rs) ≡ x ∷ rs
+  unfolding put
+  put-here e = simp (le-ltb (r .tag) (x .tag) (omega arith), eq-eqb (r .tag) (x .tag) e)
+
+  pub put-before : x .tag < r .tag → put x (r ∷ rs) ≡ x ∷ r ∷ rs
+  unfolding put
+  put-before h = simp (le-ltb (r .tag) (x .tag) (omega arith), ne-eqb (r .tag) (x .tag) (λ e. omega (arith, e, h)))
+
+  pub put-cases : (P : List TagSpace → Type 0) → (r .tag < x .tag → P (r ∷ put x rs)) → (r .tag ≡ x .tag → P (x ∷ rs)) → (x .tag < r .tag → P (x ∷ r ∷ rs)) → P (put x (r ∷ rs))
+  put-cases P f g h =
+      by-order (r .tag) (x .tag) (λ l. subst P (sym (put-lower l)) (f l)) (λ e. subst P (sym (put-here e)) (g e)) (λ l. subst P (sym (put-before l)) (h l))
 
 module _ (x : TagSpace) where
   put-front : (front rest : List TagSpace) → Lower (x .tag) front → put x (front ++ rest) ≡ front ++ put x rest
-  unfolding put
   put-front [] rest a = refl
-  put-front (r ∷ rs) rest a = simp (lt-ltb (r .tag) (x .tag) (a .0)) (ap (λ (t : List TagSpace). r ∷ t) (put-front rs rest (a .1)))
-
-  put-here : (r : TagSpace) (rs : List TagSpace) → r .tag ≡ x .tag → put x (r ∷ rs) ≡ x ∷ rs
-  unfolding put
-  put-here r rs e = simp (le-ltb (r .tag) (x .tag) (omega arith), eq-eqb (r .tag) (x .tag) e)
+  put-front (r ∷ rs) rest a = put-lower x r (rs ++ rest) (a .0) ∙ ap (λ (t : List TagSpace). r ∷ t) (put-front rs rest (a .1))
 
   put-behind : (rs : List TagSpace) → Higher (x .tag) rs → put x rs ≡ x ∷ rs
   unfolding put
   put-behind [] a = refl
-  put-behind (r ∷ rs) a =
-      simp (le-ltb (r .tag) (x .tag) (omega (arith, a .0)), ne-eqb (r .tag) (x .tag) (λ e. omega (arith, e, a .0)))
+  put-behind (r ∷ rs) a = put-before x r rs (a .0)
 
 -- ---- the order
 
@@ -68,23 +79,22 @@ order-behind (r ∷ rs) o (suc j) d h = order-behind rs (o .1) j d (le-of-suc-le
 put-higher : (n : ℕ) (x : TagSpace) (rs : List TagSpace) → n < x .tag → Higher n rs → Higher n (put x rs)
 unfolding put
 put-higher n x [] h a = (h, tt)
-put-higher n x (r ∷ rs) h a =
-    by-lt (r .tag) (x .tag) (λ l. simp (lt-ltb (r .tag) (x .tag) l) (a .0, put-higher n x rs h (a .1)))
-    (λ l.
-    by-eq (r .tag) (x .tag) (λ e. simp (le-ltb (r .tag) (x .tag) l, eq-eqb (r .tag) (x .tag) e) (h, a .1))
-    (λ e. simp (le-ltb (r .tag) (x .tag) l, ne-eqb (r .tag) (x .tag) e) (h, a)))
+put-higher n x (r ∷ rs) h a = put-cases x r rs (Higher n) (λ l. (a .0, put-higher n x rs h (a .1))) (λ e. (h, a .1)) (λ l. (h, a))
 
 pub put-order : (x : TagSpace) (rs : List TagSpace) → InTagOrder rs → InTagOrder (put x rs)
 unfolding put
 put-order x [] o = (tt, tt)
 put-order x (r ∷ rs) o =
-    by-lt (r .tag) (x .tag) (λ l. simp (lt-ltb (r .tag) (x .tag) l) (put-higher (r .tag) x rs l (o .0), put-order x rs (o .1)))
+    put-cases x r rs InTagOrder (λ l. (put-higher (r .tag) x rs l (o .0), put-order x rs (o .1)))
+    (λ e. (subst (λ (n : ℕ). Higher n rs) e (o .0), o .1))
     (λ l.
-    by-eq (r .tag) (x .tag) (λ e. simp (le-ltb (r .tag) (x .tag) l, eq-eqb (r .tag) (x .tag) e) (subst (λ (n : ℕ). Higher n rs) e (o .0), o .1))
-    (λ e.
-    let h : x .tag < r .tag = omega arith in
-    simp (le-ltb (r .tag) (x .tag) l, ne-eqb (r .tag) (x .tag) e)
-    ((h, all-imp (λ (q : TagSpace). r .tag < q .tag) (λ (q : TagSpace). x .tag < q .tag) (λ q g. omega (arith, g, h)) rs (o .0)), o)))
+    ((l, all-imp (λ (q : TagSpace). r .tag < q .tag) (λ (q : TagSpace). x .tag < q .tag) (λ q g. omega (arith, g, l)) rs (o .0)), o))
+
+-- no row is lost, and none made where the tag has one
+pub put-more : (x : TagSpace) (rs : List TagSpace) → length rs ≤ length (put x rs)
+unfolding put
+put-more x [] = omega arith
+put-more x (r ∷ rs) = put-cases x r rs (λ (l : List TagSpace). length (r ∷ rs) ≤ length l) (λ l. let h = put-more x rs in omega (arith, h)) (λ e. omega arith) (λ l. omega arith)
 
 -- ---- a tag that has a row, at j
 

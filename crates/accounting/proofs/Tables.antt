@@ -1,18 +1,19 @@
 -- Records and what they mean: the record of a table, and where a tag's row stands in it.
 use Prim.Native.Nat.{ℕ, zero, suc, _+_, _-_, _≤_, _<_}
+use mathlib.Core.Bool.{true, false}
 use mathlib.Core.List.{List, [], _∷_, _++_}
 use mathlib.Core.Path.{_≡_, refl, ap, sym, subst, _∙_}
 use native.Mathlib.Omega.{arith}
 use lib.ListN.{length, getD, take, drop, replicate, length-drop, List·getD-map, List·getD-eq-default}
 use lib.Seq.{take-append-seam, getD-take, getD-drop, length-take-le}
-use Rattle.accounting.specs.Inner.{tagsOf}
+use Rattle.accounting.specs.Inner.{Lower, Higher, Sought, tagsOf}
 use Rattle.accounting.specs.Row.{blank}
 use Rattle.accounting.specs.Table.{Table, InTagOrder, Valid, accountsOf, tableOf}
 use Rattle.accounting.specs.declared.Accounting.{Accounting}
 use Rattle.accounting.specs.declared.TagSpace.{TagSpace}
 use Rattle.numbers.specs.Search.{Rising, Found}
-use Rattle.accounting.proofs.Rows.{Lower, Higher, order-front}
-use Rattle.numbers.proofs.Cases.{by-eq}
+use Rattle.accounting.proofs.Rows.{order-front}
+use Rattle.numbers.proofs.Cases.{clash, by-eq}
 use Rattle.numbers.proofs.Lists.{all-at, all-of}
 
 pub table-accounts : (t : Table) → tableOf (accountsOf t) ≡ t
@@ -73,15 +74,15 @@ module _ (a : Accounting) (v : Valid a) where
       (by-eq i j (λ e. rw e (omega arith)) (λ n. let s = lower-tag i j (omega arith) (omega (arith, count-rows)) in omega (arith, s)))
 
   module _ (tag k : ℕ) (f : Found (tagsOf a) (a .count) tag k) where
-    pub place-in : k ≤ length xs
+    place-in : k ≤ length xs
     place-in = omega (arith, f .inside, count-rows)
 
     at-or-below : 0 < k → getD xs (k - 1) (blank 0) .tag ≤ tag
     at-or-below h = rw (sym (tag-of-record (k - 1))) (f .below h)
 
-    -- the row in front of the place has the tag, or no row has
+    -- the row in front of the place has another tag: no row has this one
     module _ (other : 0 < k → getD xs (k - 1) (blank 0) .tag ≡ tag → ⊥) where
-      pub rows-lower : Lower tag (take k xs)
+      rows-lower : Lower tag (take k xs)
       rows-lower =
           let n : length (take k xs) ≡ k = length-take-le k xs place-in in
           all-of (λ (q : TagSpace). q .tag < tag) (take k xs) (blank 0)
@@ -91,10 +92,44 @@ module _ (a : Accounting) (v : Valid a) where
           (λ e. rw e (let b = at-or-below (omega arith) in by-eq (getD xs (k - 1) (blank 0) .tag) tag (λ z. absurd (other (omega arith) z)) (λ z. omega arith)))
           (λ e. let b = at-or-below (omega arith) in let s = lower-tag i (k - 1) (omega arith) (omega (arith, place-in)) in omega arith)))
 
-      pub rows-higher : Higher tag (drop k xs)
+      rows-higher : Higher tag (drop k xs)
       rows-higher =
           let n : length (drop k xs) ≡ length xs - k = length-drop k xs in
           all-of (λ (q : TagSpace). tag < q .tag) (drop k xs) (blank 0)
           (λ i h.
           rw (getD-drop k xs i (blank 0), sym (tag-of-record (k + i)))
           (f .above rising (k + i) (omega arith) (omega (arith, count-rows))))
+
+-- ---- what the search finds
+
+module _ (a : Accounting) (tag : ℕ) where
+  pub sought-none : 96 < a .count → Sought a tag (record { known = false; at = 0 })
+  sought-none h =
+      record {
+        inside = omega arith;
+        few = λ z. clash {b = false} z refl;
+        own = λ z. clash {b = false} z refl;
+        lower = λ z v. absurd (omega (arith, v .few, h));
+        higher = λ z v. absurd (omega (arith, v .few, h));
+      }
+
+  module _ (few : a .count ≤ 96) (k : ℕ) (f : Found (tagsOf a) (a .count) tag k) where
+    pub sought-row : 0 < k → getD (a .rows) (k - 1) (blank 0) .tag ≡ tag → Sought a tag (record { known = true; at = k - 1 })
+    sought-row h e =
+        record {
+          inside = omega (arith, f .inside);
+          few = λ z. (few, omega (arith, f .inside, h));
+          own = λ z. e;
+          lower = λ z v. clash {b = true} refl z;
+          higher = λ z v. clash {b = true} refl z;
+        }
+
+    pub sought-place : (0 < k → getD (a .rows) (k - 1) (blank 0) .tag ≡ tag → ⊥) → Sought a tag (record { known = false; at = k })
+    sought-place other =
+        record {
+          inside = f .inside;
+          few = λ z. clash {b = false} z refl;
+          own = λ z. clash {b = false} z refl;
+          lower = λ z v. rows-lower a v tag k f (λ h e. other h (subst (λ (r : TagSpace). r .tag ≡ tag) (sym (row-of-record a v (k - 1))) e));
+          higher = λ z v. rows-higher a v tag k f (λ h e. other h (subst (λ (r : TagSpace). r .tag ≡ tag) (sym (row-of-record a v (k - 1))) e));
+        }

@@ -61,6 +61,11 @@ unfoldable pub addAll : List Usage → Table → Table
 addAll [] t = t
 addAll (u ∷ us) t = addAll us (onRow (u .tag) (addUsage (u .logical) (u .physical)) t)
 
+-- The usages of one tag.
+unfoldable pub ofTag : ℕ → List Usage → List Usage
+ofTag tag [] = []
+ofTag tag (u ∷ us) = cond (eqb (u .tag) tag) (u ∷ ofTag tag us) (ofTag tag us)
+
 -- The accounts of no tag.
 abbrev pub noTags : Table
 noTags = record { rows = []; total = 0 }

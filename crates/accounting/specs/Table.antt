@@ -11,7 +11,7 @@ use Rattle.accounting.specs.declared.Accounting.{Accounting}
 use Rattle.accounting.specs.declared.Asked.{Asked}
 use Rattle.accounting.specs.declared.Posted.{Posted}
 use Rattle.accounting.specs.declared.TagSpace.{TagSpace}
-use Rattle.numbers.specs.Lists.{All}
+use Rattle.numbers.specs.Lists.{All, Any}
 use Rattle.numbers.specs.Sums.{stop}
 
 -- What accounts mean: a row for each tag that has one, in tag order, and the bytes reserved of all tags.
@@ -37,6 +37,10 @@ pub record Valid (a : Accounting) : Type 0 where
   pub few : a .count ≤ 96
   pub order : InTagOrder (tableOf a .rows)
   pub record-of : a ≡ accountsOf (tableOf a)
+
+-- A tag has a row, is known.
+abbrev pub HasRow : ℕ → List TagSpace → Type 0
+HasRow tag rs = Any (λ (r : TagSpace). r .tag ≡ tag) rs
 
 -- The row of a tag, a blank one where it has none.
 unfoldable pub rowOf : ℕ → List TagSpace → TagSpace
@@ -68,6 +72,7 @@ abbrev pub same : TagSpace → TagSpace
 same r = r
 
 -- What is handed back where a table t is to become `next`: 19 for the "97th tag", and a refused call "changes nothing".
+-- `refused-full`, `kept-known` and `kept-room` (proofs/Words) say when that is.
 unfoldable pub handed : Table → Table → Posted
 handed t next =
     cond (ltb 96 (length (next .rows))) (record { refusal = 19; accounts = accountsOf t })

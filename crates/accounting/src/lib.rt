@@ -73,7 +73,6 @@ pub(crate) enum Posting {
     Reserve(u64),
     Unreserve(u64),
     SetCap(Cap),
-    Nothing,
 }
 
 // Two header blocks and the data.
@@ -171,19 +170,22 @@ impl Accounting {
     pub fn fits(self, tag: u32, extra: u64) -> Asked
         ensures { λ r. ⌜ Asks self tag extra r ⌝ }
     {
-        let p = self.post(tag, Posting::Nothing);
-        let accounts = p.accounts;
-        if p.refusal != 0 {
+        let spot = self.find(tag);
+        let at = spot.at;
+        if spot.known {
+            let row = self.rows[at];
             return Asked {
-                refusal: p.refusal,
-                fits: false,
-                accounts,
+                refusal: 0,
+                fits: row.fits(extra),
+                accounts: self,
             };
         }
-        let row = self.row(tag);
+        // a new row has no cap
+        let p = self.insert(at, TagSpace::blank(tag));
+        let accounts = p.accounts;
         Asked {
-            refusal: 0,
-            fits: row.fits(extra),
+            refusal: p.refusal,
+            fits: p.refusal == 0,
             accounts,
         }
     }
@@ -238,16 +240,10 @@ impl Accounting {
     pub fn row(self, tag: u32) -> TagSpace
         ensures { λ r. ⌜ (Valid self → r ≡ rowOf tag (tableOf self .rows)) ⌝ }
     {
-        let count = self.count;
-        if count > MOST {
-            return TagSpace::blank(tag);
-        }
-        let at = self.place(tag);
-        if at > 0 {
-            let row = self.rows[at - 1];
-            if row.tag == tag {
-                return row;
-            }
+        let spot = self.find(tag);
+        if spot.known {
+            let at = spot.at;
+            return self.rows[at];
         }
         TagSpace::blank(tag)
     }

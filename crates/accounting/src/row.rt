@@ -3,7 +3,6 @@ use crate::Cap;
 use crate::Posting;
 use crate::TagSpace;
 use numbers::add_stop;
-use numbers::passes;
 use numbers::sub_stop;
 ghost use mathlib.Core.Path.{_≡_};
 ghost use Prim.Native.Nat.{_+_};
@@ -18,7 +17,11 @@ fn at_most(a: u64, b: u64, c: u64, limit: u64) -> bool
     if limit < a {
         return false;
     }
-    !passes(b, c, limit - a)
+    let left = limit - a;
+    if left < b {
+        return false;
+    }
+    c <= left - b
 }
 
 impl TagSpace {
@@ -103,7 +106,6 @@ impl TagSpace {
             Posting::Reserve(bytes) => self.reserve(bytes),
             Posting::Unreserve(bytes) => self.unreserve(bytes),
             Posting::SetCap(cap) => self.set_cap(cap),
-            Posting::Nothing => self,
         }
     }
 }

@@ -1,27 +1,42 @@
-use mathlib.Core.Path.{ap, _∙_}
+use native.Mathlib.Omega.{arith}
 use borrow.Author.Needs.{needs}
-use Rattle.accounting.specs.Inner.{posted}
-use Rattle.accounting.specs.Row.{fits}
 use Rattle.accounting.proofs.Accounting.fits.Statement.{statement}
-use Rattle.accounting.proofs.Handing.{asks-refused, asks-answered}
+use Rattle.accounting.proofs.Handing.{asks-known, asks-unknown}
 use Rattle.accounting.proofs.Accounting.fits.Tie as tie
 
-post-requires : tie.Need-post-requires
-post-requires c κs = search needs
+find-requires : tie.Need-find-requires
+find-requires c κs = search needs
 
-returns : tie.Need-returns
-unfolding posted
-returns c = asks-refused (c .before .before .before .before .args .self) (c .before .before .before .before .args .tag) (c .before .before .before .before .args .extra) (c .before .before .before .post .result) (c .before .before .before .post .ensures) (c .if1 .taken)
+mul-row : tie.Need-mul-row
+mul-row c = let h = c .before .find .ensures .few (c .if1 .taken) in omega (arith, h .0, h .1)
 
-row-requires : tie.Need-row-requires
-row-requires c κs = search needs
+element-copy-out-row : tie.Need-element-copy-out-row
+element-copy-out-row c = let h = c .before .find .ensures .few (c .if1 .taken) in omega (arith, h .0, h .1)
 
 fits-requires : tie.Need-fits-requires
 fits-requires c κs = search needs
 
+returns : tie.Need-returns
+returns c = let a = c .before .before .before .before .args in asks-known (a .t1) (a .tag) (a .extra) (c .before .before .before .find .result) (c .before .before .before .find .ensures) (c .before .before .if1 .taken) (c .fits2 .result) (c .fits2 .ensures)
+
+blank-requires : tie.Need-blank-requires
+blank-requires c κs = search needs
+
+insert-requires : tie.Need-insert-requires
+insert-requires c κs = c .before .before .find .ensures .inside
+
 returns-2 : tie.Need-returns-2
-unfolding posted
-returns-2 c = asks-answered (c .before .before .before .before .before .before .args .self) (c .before .before .before .before .before .before .args .tag) (c .before .before .before .before .before .before .args .extra) (c .before .before .before .before .before .post .result) (c .before .before .before .before .before .post .ensures) (c .before .before .if1 .left) (c .fits2 .result) (λ v. c .fits2 .ensures ∙ ap (fits (c .before .before .before .before .before .before .args .extra)) (c .before .row .ensures v))
+returns-2 c = let a = c .before .before .before .before .before .before .args in asks-unknown (a .t1) (a .tag) (a .extra) (c .before .before .before .before .before .find .result) (c .before .before .before .before .before .find .ensures) (c .before .before .before .before .if1 .left) (c .before .before .before .blank .result) (c .before .before .before .blank .ensures) (c .before .before .insert .result) (c .before .before .insert .ensures)
 
 pub fits-spec : {M : Type 1} → statement M
-fits-spec = tie.close (tie.spec post-requires returns row-requires fits-requires returns-2)
+fits-spec =
+    tie.close
+    (tie.spec
+    find-requires
+    mul-row
+    element-copy-out-row
+    fits-requires
+    returns
+    blank-requires
+    insert-requires
+    returns-2)

@@ -1,8 +1,9 @@
-use mathlib.Core.Path.{_≡_}
+use mathlib.Core.Path.{_≡_, sym}
 use native.Mathlib.Omega.{arith}
 use lib.ListN.{length, length-map}
 use Rattle.accounting.specs.Row.{blank}
 use Rattle.accounting.proofs.Accounting.insert.Statement.{statement}
+use Rattle.accounting.proofs.Handing.{inserted-many, inserted-full, inserted-room}
 use Rattle.accounting.proofs.Shifting.{Inserting, insert-begins, insert-in, insert-on, insert-ends}
 use Rattle.accounting.proofs.Accounting.insert.Tie as tie
 
@@ -15,23 +16,29 @@ abbrev μ-loop : tie.MeasureT-loop
 full : (c : tie.Start Inv-loop μ-loop) → length (c .args .t1 .rows) ≡ 96
 full c = simp length-map at (c .good .0 .1 .1 .0 .1 .0 .1)
 
+returns : tie.Need-returns Inv-loop μ-loop
+returns c = let a = c .before .args in sym (inserted-many (a .at) (a .row) (a .t1) (c .if1 .taken))
+
+returns-2 : tie.Need-returns-2 Inv-loop μ-loop
+returns-2 c = let a = c .before .before .args in sym (inserted-full (a .at) (a .row) (a .t1) (c .if2 .taken))
+
 loop-holds : tie.Need-loop-holds Inv-loop μ-loop
-loop-holds c = let f = full c in insert-begins (c .args .t1) (c .args .at) (c .pre .0) (omega (arith, f, c .pre .1))
+loop-holds c = let f = full (c .before .before) in insert-begins (c .before .before .args .t1) (c .before .before .args .at) (c .before .before .pre) (omega (arith, f, c .before .if1 .left, c .if2 .left))
 
 sub-before : tie.Need-sub-before Inv-loop μ-loop
 sub-before c = omega (arith, c .loop-test .taken)
 
 mul-before : tie.Need-mul-before Inv-loop μ-loop
-mul-before c = let h = c .before .before .pre in omega (arith, insert-in (c .before .loop .inv), h .1)
+mul-before c = omega (arith, insert-in (c .before .loop .inv), c .before .before .before .if1 .left, c .before .before .if2 .left)
 
 element-copy-out-before : tie.Need-element-copy-out-before Inv-loop μ-loop
-element-copy-out-before c = let h = c .before .before .pre in omega (arith, insert-in (c .before .loop .inv), h .1)
+element-copy-out-before c = omega (arith, insert-in (c .before .loop .inv), c .before .before .before .if1 .left, c .before .before .if2 .left)
 
 mul-before-2 : tie.Need-mul-before-2 Inv-loop μ-loop
-mul-before-2 c = let h = c .before .before .before .pre in omega (arith, insert-in (c .before .before .loop .inv), h .1)
+mul-before-2 c = omega (arith, insert-in (c .before .before .loop .inv), c .before .before .before .before .if1 .left, c .before .before .before .if2 .left)
 
 element-set-from-before : tie.Need-element-set-from-before Inv-loop μ-loop
-element-set-from-before c = let h = c .before .before .before .pre in omega (arith, insert-in (c .before .before .loop .inv), h .1)
+element-set-from-before c = omega (arith, insert-in (c .before .before .loop .inv), c .before .before .before .before .if1 .left, c .before .before .before .if2 .left)
 
 sub-i : tie.Need-sub-i Inv-loop μ-loop
 sub-i c = omega (arith, c .before .loop-test .taken)
@@ -43,16 +50,16 @@ loop-again : tie.Need-loop-again Inv-loop μ-loop
 loop-again c = insert-on (c .before .before .loop .inv) (blank 0) (c .before .loop-test .taken)
 
 mul-row : tie.Need-mul-row Inv-loop μ-loop
-mul-row c = let h = c .before .before .pre in omega (arith, h .0, h .1)
+mul-row c = omega (arith, c .before .before .before .before .pre, c .before .before .before .if1 .left, c .before .before .if2 .left)
 
 element-set-from-row : tie.Need-element-set-from-row Inv-loop μ-loop
-element-set-from-row c = let h = c .before .before .pre in omega (arith, h .0, h .1)
+element-set-from-row c = omega (arith, c .before .before .before .before .pre, c .before .before .before .if1 .left, c .before .before .if2 .left)
 
 add-self : tie.Need-add-self Inv-loop μ-loop
-add-self c = let h = c .before .before .pre in omega (arith, h .0, h .1)
+add-self c = omega (arith, c .before .before .before .before .pre, c .before .before .before .if1 .left, c .before .before .if2 .left)
 
-returns : tie.Need-returns Inv-loop μ-loop
-returns c = rw (insert-ends (c .before .loop .inv) (c .before .before .args .row) (c .loop-test .left), c .before .loop .inv .reserved)
+returns-3 : tie.Need-returns-3 Inv-loop μ-loop
+returns-3 c = let a = c .before .before .before .before .args in rw (insert-ends (c .before .loop .inv) (a .row) (c .loop-test .left), c .before .loop .inv .reserved) (sym (inserted-room (a .at) (a .row) (a .t1) (omega (arith, c .before .before .before .if1 .left, c .before .before .if2 .left))))
 
 pub insert-spec : {M : Type 1} → statement M
 insert-spec =
@@ -60,6 +67,8 @@ insert-spec =
     (tie.spec
     Inv-loop
     μ-loop
+    returns
+    returns-2
     loop-holds
     sub-before
     mul-before
@@ -72,4 +81,4 @@ insert-spec =
     mul-row
     element-set-from-row
     add-self
-    returns)
+    returns-3)

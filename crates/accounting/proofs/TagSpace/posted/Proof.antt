@@ -33,9 +33,6 @@ enum-known-posting-5 c = search needs
 set-cap-requires : tie.Need-set-cap-requires
 set-cap-requires c κs = search needs
 
-enum-told : tie.Need-enum-told
-enum-told c = search needs
-
 returns : tie.Need-returns
 unfolding posted
 returns c = rw (c .before .before .posting .given .1) (c .add-usage .ensures)
@@ -56,10 +53,6 @@ returns-5 : tie.Need-returns-5
 unfolding posted
 returns-5 c = rw (c .before .before .posting5 .given .1) (c .set-cap .ensures)
 
-returns-6 : tie.Need-returns-6
-unfolding posted
-returns-6 c = rw (c .enum-told .given .1)
-
 pub posted-spec : {M : Type 1} → statement M
 posted-spec =
     tie.close
@@ -74,10 +67,8 @@ posted-spec =
     unreserve-requires
     enum-known-posting-5
     set-cap-requires
-    enum-told
     returns
     returns-2
     returns-3
     returns-4
-    returns-5
-    returns-6)
+    returns-5)
