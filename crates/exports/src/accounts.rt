@@ -376,10 +376,11 @@ pub extern "C" fn fundravai_accounts_add_usage_each(
     let mut i = 0;
     while i < tags.len() && i < logical.len() && i < physical.len() {
         let posted = accounts.add_usage(tags[i], logical[i], physical[i]);
-        if posted.refusal != 0 {
-            return flat_posted(posted);
-        }
+        let refusal = posted.refusal;
         accounts = posted.accounts;
+        if refusal != 0 {
+            return flat_posted(Posted { refusal, accounts });
+        }
         i += 1;
     }
     flat_posted(Posted {
@@ -400,10 +401,11 @@ pub extern "C" fn fundravai_accounts_remove_usage_each(
     let mut i = 0;
     while i < tags.len() && i < logical.len() && i < physical.len() {
         let posted = accounts.remove_usage(tags[i], logical[i], physical[i]);
-        if posted.refusal != 0 {
-            return flat_posted(posted);
-        }
+        let refusal = posted.refusal;
         accounts = posted.accounts;
+        if refusal != 0 {
+            return flat_posted(Posted { refusal, accounts });
+        }
         i += 1;
     }
     flat_posted(Posted {
@@ -424,14 +426,16 @@ pub extern "C" fn fundravai_accounts_fits_each(
     let mut i = 0;
     while i < tags.len() && i < extra.len() {
         let asked = accounts.fits(tags[i], extra[i]);
-        if asked.refusal != 0 {
+        let refusal = asked.refusal;
+        let within = asked.fits;
+        accounts = asked.accounts;
+        if refusal != 0 {
             return FlatAnswer {
-                refusal: asked.refusal,
+                refusal,
                 value: fit,
             };
         }
-        accounts = asked.accounts;
-        if asked.fits {
+        if within {
             fit += 1;
         }
         i += 1;
