@@ -24,6 +24,21 @@ unfolding rowOf
 row-tag tag [] = refl
 row-tag tag (r ∷ rs) = by-eq (r .tag) tag (λ e. simp (eq-eqb (r .tag) tag e) e) (λ n. simp (ne-eqb (r .tag) tag n) (row-tag tag rs))
 
+-- a known tag's row is one of the rows, an unknown one's is blank
+pub row-there : (tag : ℕ) (rs : List TagSpace) → HasRow tag rs → Any (λ (r : TagSpace). r ≡ rowOf tag rs) rs
+row-there tag [] h = h
+row-there tag (r ∷ rs) h =
+    by-eq (r .tag) tag (λ e. inl (sym (row-here tag r rs e)))
+    (λ n.
+    inr
+    (subst (λ (q : TagSpace). Any (λ (y : TagSpace). y ≡ q) rs) (sym (row-later tag r rs n))
+    (row-there tag rs (⊎-elim (λ e. absurd (n e)) (λ a. a) h))))
+
+pub row-blank : (tag : ℕ) (rs : List TagSpace) → (HasRow tag rs → ⊥) → rowOf tag rs ≡ blank tag
+unfolding rowOf
+row-blank tag [] n = refl
+row-blank tag (r ∷ rs) n = row-later tag r rs (λ e. n (inl e)) ∙ row-blank tag rs (λ a. n (inr a))
+
 -- a tag that has its row behind another
 module _ (tag : ℕ) (r : TagSpace) (rs : List TagSpace) where
   behind-higher : All (λ (q : TagSpace). r .tag < q .tag) rs → HasRow tag rs → r .tag < tag

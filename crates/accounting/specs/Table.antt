@@ -23,7 +23,7 @@ pub record Table : Type 0 where
 unfoldable pub accountsOf : Table → Accounting
 accountsOf t = record { rows = t .rows ++ replicate (96 - length (t .rows)) (blank 0); count = length (t .rows); reserved = t .total }
 
--- The table of a record; `table-accounts` (proofs/Rows) says that it is the one that the record was made of.
+-- The table of a record; `table-accounts` (proofs/Tables) says that it is the one that the record was made of.
 unfoldable pub tableOf : Accounting → Table
 tableOf a = record { rows = take (a .count) (a .rows); total = a .reserved }
 
@@ -38,16 +38,16 @@ pub record Valid (a : Accounting) : Type 0 where
   pub order : InTagOrder (tableOf a .rows)
   pub record-of : a ≡ accountsOf (tableOf a)
 
--- A tag has a row, is known.
+-- A tag is known: it has a row.
 abbrev pub HasRow : ℕ → List TagSpace → Type 0
 HasRow tag rs = Any (λ (r : TagSpace). r .tag ≡ tag) rs
 
--- The row of a tag, a blank one where it has none.
+-- The row of a tag, a blank one where it has none; `row-there` and `row-blank` (proofs/Words) say so.
 unfoldable pub rowOf : ℕ → List TagSpace → TagSpace
 rowOf tag [] = blank tag
 rowOf tag (r ∷ rs) = cond (eqb (r .tag) tag) r (rowOf tag rs)
 
--- The rows with one put in its place, over the row of the same tag where there is one.
+-- The rows with one put in its place, over the row of the same tag where there is one; `put-order` (proofs/Rows): in order still.
 unfoldable pub put : TagSpace → List TagSpace → List TagSpace
 put x [] = x ∷ []
 put x (r ∷ rs) = cond (ltb (r .tag) (x .tag)) (r ∷ put x rs) (x ∷ cond (eqb (r .tag) (x .tag)) rs (r ∷ rs))

@@ -101,7 +101,7 @@ pub(crate) fn refused(refusal: u64) -> Posted
 impl Accounting {
     // The accounts of no tag.
     pub fn empty() -> Accounting
-        ensures { λ r. ⌜ r ≡ accountsOf noTags ⌝ }
+        ensures { λ r. ⌜ (r ≡ accountsOf noTags) × Valid r ⌝ }
     {
         let blank = TagSpace::blank(0);
         Accounting {

@@ -1,3 +1,4 @@
+-- `accounting::extent_len` meets its contract: two blocks, then the data, each held against 2^64 - 1.
 use Prim.Native.Nat.{_+_, _*_, _<_, _≤_}
 use mathlib.Core.Path.{sym, _∙_}
 use native.Mathlib.Omega.{arith}

@@ -1,3 +1,4 @@
+-- `accounting::refused` meets its contract: the accounts of no tag.
 use borrow.Author.Needs.{needs}
 use Rattle.accounting.proofs.refused.Statement.{statement}
 use Rattle.accounting.proofs.refused.Tie as tie
@@ -6,7 +7,7 @@ empty-requires : tie.Need-empty-requires
 empty-requires c κs = search needs
 
 returns : tie.Need-returns
-returns c = rw (c .empty .ensures)
+returns c = rw (c .empty .ensures .0)
 
 pub refused-spec : {M : Type 1} → statement M
 refused-spec = tie.close (tie.spec empty-requires returns)

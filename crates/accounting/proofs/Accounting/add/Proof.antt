@@ -1,3 +1,4 @@
+-- `accounting::Accounting::add` meets its contract: a usage, with what `extent_len` answers.
 use Prim.Native.Nat.{ℕ}
 use mathlib.Core.Path.{subst}
 use borrow.Author.Needs.{needs}

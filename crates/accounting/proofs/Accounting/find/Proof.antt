@@ -1,3 +1,4 @@
+-- `accounting::Accounting::find` meets its contract: the halving search over the tags, and then the row in front of the place.
 use Prim.Native.Nat.{_-_, _+_, _/_}
 use mathlib.Core.Path.{_≡_, _∙_}
 use native.Mathlib.Omega.{arith}

@@ -1,3 +1,4 @@
+-- `accounting::Accounting::fits` meets its contract: a known row is asked, and a new one, which has no cap, put in.
 use native.Mathlib.Omega.{arith}
 use borrow.Author.Needs.{needs}
 use Rattle.accounting.proofs.Accounting.fits.Statement.{statement}

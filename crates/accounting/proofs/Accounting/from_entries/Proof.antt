@@ -1,3 +1,4 @@
+-- `accounting::Accounting::from_entries` meets its contract: the lengths, then each entry.
 use mathlib.Core.Path.{sym}
 use borrow.Author.Needs.{needs}
 use Rattle.accounting.proofs.Accounting.from_entries.Statement.{statement}

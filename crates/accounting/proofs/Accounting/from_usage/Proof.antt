@@ -1,3 +1,4 @@
+-- `accounting::Accounting::from_usage` meets its contract: the lengths, then each usage.
 use mathlib.Core.Path.{sym}
 use borrow.Author.Needs.{needs}
 use Rattle.accounting.proofs.Accounting.from_usage.Statement.{statement}

@@ -1,3 +1,4 @@
+-- `accounting::Accounting::insert` meets its contract: rows move one place further, the last first.
 use mathlib.Core.Path.{_≡_, sym}
 use native.Mathlib.Omega.{arith}
 use lib.ListN.{length, length-map}

@@ -1,3 +1,4 @@
+-- `accounting::Accounting::post` meets its contract: the row that was found is changed, or a new one put at its place.
 use mathlib.Core.Path.{ap, _∙_}
 use native.Mathlib.Omega.{arith}
 use borrow.Author.Needs.{needs}

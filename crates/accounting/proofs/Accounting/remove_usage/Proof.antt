@@ -1,3 +1,4 @@
+-- `accounting::Accounting::remove_usage` meets its contract: a posting.
 use borrow.Author.Needs.{needs}
 use Rattle.accounting.specs.Inner.{posted}
 use Rattle.accounting.proofs.Accounting.remove_usage.Statement.{statement}

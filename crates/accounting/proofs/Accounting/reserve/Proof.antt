@@ -1,3 +1,4 @@
+-- `accounting::Accounting::reserve` meets its contract: a posting, and the total beside it.
 use Prim.Native.Nat.{_+_}
 use borrow.Author.Needs.{needs}
 use Rattle.accounting.specs.Inner.{posted}

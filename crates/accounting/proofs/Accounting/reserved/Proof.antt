@@ -1,3 +1,4 @@
+-- `accounting::Accounting::reserved` meets its contract: it is the total of the table.
 use mathlib.Core.Path.{refl}
 use Rattle.accounting.specs.Table.{tableOf}
 use Rattle.accounting.proofs.Accounting.reserved.Statement.{statement}

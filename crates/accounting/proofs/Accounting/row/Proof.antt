@@ -1,3 +1,4 @@
+-- `accounting::Accounting::row` meets its contract: the row that was found, or a blank one.
 use mathlib.Core.Path.{sym, _∙_}
 use native.Mathlib.Omega.{arith}
 use borrow.Author.Needs.{needs}

@@ -1,3 +1,4 @@
+-- `accounting::Accounting::row_at` meets its contract: rows past the count are blank, and so is what stands behind the array.
 use mathlib.Core.Path.{sym, _∙_}
 use borrow.Author.Needs.{needs}
 use Rattle.accounting.proofs.Accounting.row_at.Statement.{statement}

@@ -1,3 +1,4 @@
+-- `accounting::Accounting::set_cap` meets its contract: a posting.
 use borrow.Author.Needs.{needs}
 use Rattle.accounting.specs.Inner.{posted}
 use Rattle.accounting.proofs.Accounting.set_cap.Statement.{statement}

@@ -1,3 +1,4 @@
+-- `accounting::TagSpace::add_usage` meets its contract: two sums that stop.
 use borrow.Author.Needs.{needs}
 use Rattle.accounting.proofs.TagSpace.add_usage.Statement.{statement}
 use Rattle.accounting.proofs.TagSpace.add_usage.Tie as tie

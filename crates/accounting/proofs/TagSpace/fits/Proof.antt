@@ -1,3 +1,4 @@
+-- `accounting::TagSpace::fits` meets its contract: no cap, or the sum held against it.
 use borrow.Author.Needs.{needs}
 use Rattle.accounting.specs.Row.{fits, allows}
 use Rattle.accounting.proofs.TagSpace.fits.Statement.{statement}

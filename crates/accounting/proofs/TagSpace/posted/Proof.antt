@@ -1,3 +1,4 @@
+-- `accounting::TagSpace::posted` meets its contract: one rule for each posting.
 use borrow.Author.Needs.{needs}
 use Rattle.accounting.specs.Inner.{posted}
 use Rattle.accounting.proofs.TagSpace.posted.Statement.{statement}

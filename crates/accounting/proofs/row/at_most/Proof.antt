@@ -1,3 +1,4 @@
+-- `accounting::row::at_most` meets its contract: what the first two leave of the limit is held against the third.
 use mathlib.Core.Path.{sym}
 use native.Mathlib.Omega.{arith}
 use Rattle.accounting.proofs.Amounts.{above-limit, under-limit}
