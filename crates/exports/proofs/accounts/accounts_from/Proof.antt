@@ -23,7 +23,7 @@ empty-requires : tie.Need-empty-requires Inv-loop μ-loop
 empty-requires c κs = search needs
 
 loop-holds : tie.Need-loop-holds Inv-loop μ-loop
-loop-holds c = turn-begins rowFrom (c .before .args .t1 .rows) (c .empty .result .rows) (ap (λ (a : Accounting). length (a .rows)) (c .empty .ensures) ∙ empty-long ∙ sym (full (c .before)))
+loop-holds c = turn-begins rowFrom (c .before .args .t1 .rows) (c .empty .result .rows) (ap (λ (a : Accounting). length (a .rows)) (c .empty .ensures .0) ∙ empty-long ∙ sym (full (c .before)))
 
 mul-row : tie.Need-mul-row Inv-loop μ-loop
 mul-row c = omega arith

@@ -12,7 +12,7 @@ flat-accounts-requires : tie.Need-flat-accounts-requires
 flat-accounts-requires c κs = search needs
 
 returns : tie.Need-returns
-returns c = c .flat-accounts .ensures ∙ ap flatAccounts (c .before .empty .ensures)
+returns c = c .flat-accounts .ensures ∙ ap flatAccounts (c .before .empty .ensures .0)
 
 pub fundravai-accounts-empty-spec : {M : Type 1} → statement M
 fundravai-accounts-empty-spec = tie.close (tie.spec empty-requires flat-accounts-requires returns)
