@@ -1,5 +1,6 @@
 //! The inputs on which both sides are run, a module for each module of the Rust.
 
+pub mod accounting;
 pub mod align;
 pub mod flat;
 pub mod footprint;

@@ -1,8 +1,10 @@
 //! The Rust project's own files, built unchanged from the sources beside the checkout (rustfmt
 //! would lay them out anew).
 
-// the engine's files name the format's by their crate
+// the engine's files name the others' by their crates
+extern crate self as store_io_core;
 extern crate self as store_io_format;
+extern crate self as store_io_platform;
 
 #[rustfmt::skip]
 #[path = "../../../../shared/docs/src/crates/store-io-core/src/align.rs"]
@@ -43,6 +45,16 @@ mod engine_footprint;
 
 pub mod free;
 pub mod settle;
+
+#[allow(dead_code)]
+mod standins;
+pub use standins::{Platform, error};
+use standins::{io, options, region, store};
+
+// declares the module `space`: build.rs says how it is built
+include!(concat!(env!("OUT_DIR"), "/modules.rs"));
+
+pub mod accounts;
 
 /// How the project sorts pairs: `sort_unstable` of the standard library.
 pub fn sort_pairs(pairs: &mut [(u64, u64)]) {

@@ -1,5 +1,6 @@
 //! The Rattle functions of crates/exports. No call asks anything of its caller, so each has a safe form.
 
+pub mod accounts;
 pub mod free;
 pub mod map;
 pub mod settle;

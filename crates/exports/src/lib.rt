@@ -1,5 +1,6 @@
 // Flat functions for compare/, which links them as a static library. Nothing is decided here: each
 // calls a leaf, and its contract is the leaf's.
+mod accounts;
 mod free;
 mod map;
 mod settlement;

@@ -1,7 +1,7 @@
 //! Prints the stored sample of the Rust's answers for the module that the argument names.
 
 use cases::random::{Random, SEED};
-use cases::{align, footprint, freemap, regionmap, settle, sort};
+use cases::{accounting, align, footprint, freemap, regionmap, settle, sort};
 
 fn main() {
     let mut random = Random::new(SEED);
@@ -12,6 +12,7 @@ fn main() {
         Some("regionmap") => regionmap::sample(&mut random),
         Some("settle") => settle::sample(&mut random),
         Some("freemap") => freemap::sample(&mut random),
+        Some("accounting") => accounting::sample(&mut random),
         other => panic!("no module {other:?}"),
     }
 }

@@ -1,0 +1,447 @@
+// Flat functions of the accounts. A cap is two numbers: whether there is one, and the limit, else 0.
+use crate::FlatAnswer;
+use crate::FlatOption;
+use accounting::Accounting;
+use accounting::Asked;
+use accounting::Cap;
+use accounting::ExtentLen;
+use accounting::Posted;
+use accounting::TagSpace;
+ghost use mathlib.Core.Path.{_≡_};
+ghost use lib.ListN.{getD};
+ghost use Rattle.accounting.specs.Entries.{Counts, noTags, usages, readyUsages, differ, extentLen, addedLen, removedLen};
+ghost use Rattle.accounting.specs.Row.{blank, addUsage, removeUsage, reserve, unreserve, setCap, fits};
+ghost use Rattle.accounting.specs.Table.{Valid, Posts, Asks, accountsOf, tableOf, onRow, reserving, unreserving, rowOf};
+ghost use Rattle.exports.specs.Flat.{flatOf};
+ghost use Rattle.exports.specs.Accounts.{capFrom, rowFrom, accountsFrom, flatRow, flatAccounts, flatPosted, flatAsked, FlatPosts, FlatAsks};
+
+#[repr(C)]
+pub struct FlatRow {
+    pub tag: u32,
+    pub capped: bool,
+    pub logical: u64,
+    pub physical: u64,
+    pub reserved: u64,
+    pub cap: u64,
+}
+
+#[repr(C)]
+pub struct FlatAccounting {
+    pub rows: [FlatRow; 96],
+    pub count: usize,
+    pub reserved: u64,
+}
+
+#[repr(C)]
+pub struct FlatPosted {
+    pub refusal: u64,
+    pub accounts: FlatAccounting,
+}
+
+#[repr(C)]
+pub struct FlatAsked {
+    pub refusal: u64,
+    pub fits: bool,
+    pub accounts: FlatAccounting,
+}
+
+fn cap_from(capped: bool, limit: u64) -> Cap
+    ensures { λ r. ⌜ r ≡ capFrom capped limit ⌝ }
+{
+    if capped {
+        return Cap::Limit(limit);
+    }
+    Cap::Nothing
+}
+
+fn row_from(row: FlatRow) -> TagSpace
+    ensures { λ r. ⌜ r ≡ rowFrom row ⌝ }
+{
+    let cap = cap_from(row.capped, row.cap);
+    TagSpace {
+        tag: row.tag,
+        logical: row.logical,
+        physical: row.physical,
+        reserved: row.reserved,
+        cap,
+    }
+}
+
+fn accounts_from(flat: FlatAccounting) -> Accounting
+    ensures { λ r. ⌜ r ≡ accountsFrom flat ⌝ }
+{
+    let mut accounts = Accounting::empty();
+    let mut i = 0;
+    while i < 96 {
+        let row = flat.rows[i];
+        accounts.rows[i] = row_from(row);
+        i += 1;
+    }
+    accounts.count = flat.count;
+    accounts.reserved = flat.reserved;
+    accounts
+}
+
+fn flat_row(row: TagSpace) -> FlatRow
+    ensures { λ r. ⌜ r ≡ flatRow row ⌝ }
+{
+    let cap = row.cap;
+    match cap {
+        Cap::Limit(limit) => FlatRow {
+            tag: row.tag,
+            capped: true,
+            logical: row.logical,
+            physical: row.physical,
+            reserved: row.reserved,
+            cap: limit,
+        },
+        Cap::Nothing => FlatRow {
+            tag: row.tag,
+            capped: false,
+            logical: row.logical,
+            physical: row.physical,
+            reserved: row.reserved,
+            cap: 0,
+        },
+    }
+}
+
+fn flat_accounts(accounts: Accounting) -> FlatAccounting
+    ensures { λ r. ⌜ r ≡ flatAccounts accounts ⌝ }
+{
+    let none = flat_row(TagSpace::blank(0));
+    let mut flat = FlatAccounting {
+        rows: [none; 96],
+        count: accounts.count,
+        reserved: accounts.reserved,
+    };
+    let mut i = 0;
+    while i < 96 {
+        let row = accounts.rows[i];
+        flat.rows[i] = flat_row(row);
+        i += 1;
+    }
+    flat
+}
+
+fn flat_posted(posted: Posted) -> FlatPosted
+    ensures { λ r. ⌜ r ≡ flatPosted posted ⌝ }
+{
+    let accounts = posted.accounts;
+    FlatPosted {
+        refusal: posted.refusal,
+        accounts: flat_accounts(accounts),
+    }
+}
+
+#[no_mangle]
+pub extern "C" fn fundravai_extent_len(size: u64, block: u64) -> FlatOption
+    ensures { λ r. ⌜ r ≡ flatOf (extentLen size block) ⌝ }
+{
+    let len = accounting::extent_len(size, block);
+    match len {
+        ExtentLen::Bytes(n) => FlatOption { some: 1, value: n },
+        ExtentLen::Nothing => FlatOption { some: 0, value: 0 },
+    }
+}
+
+#[no_mangle]
+pub extern "C" fn fundravai_accounts_empty() -> FlatAccounting
+    ensures { λ r. ⌜ r ≡ flatAccounts (accountsOf noTags) ⌝ }
+{
+    flat_accounts(Accounting::empty())
+}
+
+#[no_mangle]
+pub extern "C" fn fundravai_accounts_from_entries(
+    states: &[u8],
+    tags: &[u32],
+    sizes: &[u64],
+    block: u64,
+) -> FlatPosted
+    ensures { λ r. ⌜ FlatPosts (Counts (differ (now (tags .entry)) (now (states .entry)) (now (sizes .entry))) (readyUsages block (now (states .entry)) (now (tags .entry)) (now (sizes .entry)))) r ⌝ }
+{
+    flat_posted(Accounting::from_entries(states, tags, sizes, block))
+}
+
+#[no_mangle]
+pub extern "C" fn fundravai_accounts_from_usage(
+    tags: &[u32],
+    logical: &[u64],
+    physical: &[u64],
+) -> FlatPosted
+    ensures { λ r. ⌜ FlatPosts (Counts (differ (now (tags .entry)) (now (logical .entry)) (now (physical .entry))) (usages (now (tags .entry)) (now (logical .entry)) (now (physical .entry)))) r ⌝ }
+{
+    flat_posted(Accounting::from_usage(tags, logical, physical))
+}
+
+#[no_mangle]
+pub extern "C" fn fundravai_accounts_add_usage(
+    flat: FlatAccounting,
+    tag: u32,
+    logical: u64,
+    physical: u64,
+) -> FlatPosted
+    ensures { λ r. ⌜ FlatPosts (Posts (accountsFrom flat) (onRow tag (addUsage logical physical))) r ⌝ }
+{
+    let accounts = accounts_from(flat);
+    flat_posted(accounts.add_usage(tag, logical, physical))
+}
+
+#[no_mangle]
+pub extern "C" fn fundravai_accounts_remove_usage(
+    flat: FlatAccounting,
+    tag: u32,
+    logical: u64,
+    physical: u64,
+) -> FlatPosted
+    ensures { λ r. ⌜ FlatPosts (Posts (accountsFrom flat) (onRow tag (removeUsage logical physical))) r ⌝ }
+{
+    let accounts = accounts_from(flat);
+    flat_posted(accounts.remove_usage(tag, logical, physical))
+}
+
+#[no_mangle]
+pub extern "C" fn fundravai_accounts_add(
+    flat: FlatAccounting,
+    tag: u32,
+    size: u64,
+    block: u64,
+) -> FlatPosted
+    ensures { λ r. ⌜ FlatPosts (Posts (accountsFrom flat) (onRow tag (addUsage size (addedLen size block)))) r ⌝ }
+{
+    let accounts = accounts_from(flat);
+    flat_posted(accounts.add(tag, size, block))
+}
+
+#[no_mangle]
+pub extern "C" fn fundravai_accounts_remove(
+    flat: FlatAccounting,
+    tag: u32,
+    size: u64,
+    block: u64,
+) -> FlatPosted
+    ensures { λ r. ⌜ FlatPosts (Posts (accountsFrom flat) (onRow tag (removeUsage size (removedLen size block)))) r ⌝ }
+{
+    let accounts = accounts_from(flat);
+    flat_posted(accounts.remove(tag, size, block))
+}
+
+#[no_mangle]
+pub extern "C" fn fundravai_accounts_fits(flat: FlatAccounting, tag: u32, extra: u64) -> FlatAsked
+    ensures { λ r. ⌜ FlatAsks (Asks (accountsFrom flat) tag extra) r ⌝ }
+{
+    let accounts = accounts_from(flat);
+    let asked = accounts.fits(tag, extra);
+    let after = asked.accounts;
+    FlatAsked {
+        refusal: asked.refusal,
+        fits: asked.fits,
+        accounts: flat_accounts(after),
+    }
+}
+
+#[no_mangle]
+pub extern "C" fn fundravai_accounts_reserve(
+    flat: FlatAccounting,
+    tag: u32,
+    bytes: u64,
+) -> FlatPosted
+    ensures { λ r. ⌜ FlatPosts (Posts (accountsFrom flat) (reserving tag bytes)) r ⌝ }
+{
+    let accounts = accounts_from(flat);
+    flat_posted(accounts.reserve(tag, bytes))
+}
+
+#[no_mangle]
+pub extern "C" fn fundravai_accounts_unreserve(
+    flat: FlatAccounting,
+    tag: u32,
+    bytes: u64,
+) -> FlatPosted
+    ensures { λ r. ⌜ FlatPosts (Posts (accountsFrom flat) (unreserving tag bytes)) r ⌝ }
+{
+    let accounts = accounts_from(flat);
+    flat_posted(accounts.unreserve(tag, bytes))
+}
+
+#[no_mangle]
+pub extern "C" fn fundravai_accounts_set_cap(
+    flat: FlatAccounting,
+    tag: u32,
+    capped: bool,
+    limit: u64,
+) -> FlatPosted
+    ensures { λ r. ⌜ FlatPosts (Posts (accountsFrom flat) (onRow tag (setCap (capFrom capped limit)))) r ⌝ }
+{
+    let accounts = accounts_from(flat);
+    let cap = cap_from(capped, limit);
+    flat_posted(accounts.set_cap(tag, cap))
+}
+
+#[no_mangle]
+pub extern "C" fn fundravai_accounts_reserved(flat: FlatAccounting) -> u64
+    ensures { λ r. ⌜ r ≡ tableOf (accountsFrom flat) .total ⌝ }
+{
+    let accounts = accounts_from(flat);
+    accounts.reserved()
+}
+
+#[no_mangle]
+pub extern "C" fn fundravai_accounts_row(flat: FlatAccounting, tag: u32) -> FlatRow
+    ensures { λ r. ⌜ (Valid (accountsFrom flat) → r ≡ flatRow (rowOf tag (tableOf (accountsFrom flat) .rows))) ⌝ }
+{
+    let accounts = accounts_from(flat);
+    flat_row(accounts.row(tag))
+}
+
+#[no_mangle]
+pub extern "C" fn fundravai_accounts_row_at(flat: FlatAccounting, i: usize) -> FlatRow
+    ensures { λ r. ⌜ (Valid (accountsFrom flat) → r ≡ flatRow (getD (tableOf (accountsFrom flat) .rows) i (blank 0))) ⌝ }
+{
+    let accounts = accounts_from(flat);
+    flat_row(accounts.row_at(i))
+}
+
+// One tag's row by itself.
+
+#[no_mangle]
+pub extern "C" fn fundravai_row_blank(tag: u32) -> FlatRow
+    ensures { λ r. ⌜ r ≡ flatRow (blank tag) ⌝ }
+{
+    flat_row(TagSpace::blank(tag))
+}
+
+#[no_mangle]
+pub extern "C" fn fundravai_row_add_usage(flat: FlatRow, logical: u64, physical: u64) -> FlatRow
+    ensures { λ r. ⌜ r ≡ flatRow (addUsage logical physical (rowFrom flat)) ⌝ }
+{
+    let row = row_from(flat);
+    flat_row(row.add_usage(logical, physical))
+}
+
+#[no_mangle]
+pub extern "C" fn fundravai_row_remove_usage(flat: FlatRow, logical: u64, physical: u64) -> FlatRow
+    ensures { λ r. ⌜ r ≡ flatRow (removeUsage logical physical (rowFrom flat)) ⌝ }
+{
+    let row = row_from(flat);
+    flat_row(row.remove_usage(logical, physical))
+}
+
+#[no_mangle]
+pub extern "C" fn fundravai_row_reserve(flat: FlatRow, bytes: u64) -> FlatRow
+    ensures { λ r. ⌜ r ≡ flatRow (reserve bytes (rowFrom flat)) ⌝ }
+{
+    let row = row_from(flat);
+    flat_row(row.reserve(bytes))
+}
+
+#[no_mangle]
+pub extern "C" fn fundravai_row_unreserve(flat: FlatRow, bytes: u64) -> FlatRow
+    ensures { λ r. ⌜ r ≡ flatRow (unreserve bytes (rowFrom flat)) ⌝ }
+{
+    let row = row_from(flat);
+    flat_row(row.unreserve(bytes))
+}
+
+#[no_mangle]
+pub extern "C" fn fundravai_row_set_cap(flat: FlatRow, capped: bool, limit: u64) -> FlatRow
+    ensures { λ r. ⌜ r ≡ flatRow (setCap (capFrom capped limit) (rowFrom flat)) ⌝ }
+{
+    let row = row_from(flat);
+    let cap = cap_from(capped, limit);
+    flat_row(row.set_cap(cap))
+}
+
+#[no_mangle]
+pub extern "C" fn fundravai_row_fits(flat: FlatRow, extra: u64) -> bool
+    ensures { λ r. ⌜ r ≡ fits extra (rowFrom flat) ⌝ }
+{
+    let row = row_from(flat);
+    row.fits(extra)
+}
+
+// The next three are for the benchmark, where putting the accounts into flat numbers and back would
+// cost more than a posting. They promise nothing but to end without a trap.
+
+// Adds each usage in turn, up to the first that is refused, and hands back what that one does.
+#[no_mangle]
+pub extern "C" fn fundravai_accounts_add_usage_each(
+    flat: FlatAccounting,
+    tags: &[u32],
+    logical: &[u64],
+    physical: &[u64],
+) -> FlatPosted {
+    let mut accounts = accounts_from(flat);
+    let mut i = 0;
+    while i < tags.len() && i < logical.len() && i < physical.len() {
+        let posted = accounts.add_usage(tags[i], logical[i], physical[i]);
+        let refusal = posted.refusal;
+        accounts = posted.accounts;
+        if refusal != 0 {
+            return flat_posted(Posted { refusal, accounts });
+        }
+        i += 1;
+    }
+    flat_posted(Posted {
+        refusal: 0,
+        accounts,
+    })
+}
+
+// Removes each usage in turn, in the same way.
+#[no_mangle]
+pub extern "C" fn fundravai_accounts_remove_usage_each(
+    flat: FlatAccounting,
+    tags: &[u32],
+    logical: &[u64],
+    physical: &[u64],
+) -> FlatPosted {
+    let mut accounts = accounts_from(flat);
+    let mut i = 0;
+    while i < tags.len() && i < logical.len() && i < physical.len() {
+        let posted = accounts.remove_usage(tags[i], logical[i], physical[i]);
+        let refusal = posted.refusal;
+        accounts = posted.accounts;
+        if refusal != 0 {
+            return flat_posted(Posted { refusal, accounts });
+        }
+        i += 1;
+    }
+    flat_posted(Posted {
+        refusal: 0,
+        accounts,
+    })
+}
+
+// Asks for each tag in turn, up to the first that is refused; answers that refusal, and how many fit.
+#[no_mangle]
+pub extern "C" fn fundravai_accounts_fits_each(
+    flat: FlatAccounting,
+    tags: &[u32],
+    extra: &[u64],
+) -> FlatAnswer {
+    let mut accounts = accounts_from(flat);
+    let mut fit = 0;
+    let mut i = 0;
+    while i < tags.len() && i < extra.len() {
+        let asked = accounts.fits(tags[i], extra[i]);
+        let refusal = asked.refusal;
+        let within = asked.fits;
+        accounts = asked.accounts;
+        if refusal != 0 {
+            return FlatAnswer {
+                refusal,
+                value: fit,
+            };
+        }
+        if within {
+            fit += 1;
+        }
+        i += 1;
+    }
+    FlatAnswer {
+        refusal: 0,
+        value: fit,
+    }
+}
