@@ -2,17 +2,20 @@
 use Prim.Native.Nat.{ℕ, suc, _+_, _≤_, _<_}
 use mathlib.Core.Bool.{Bool, true, false, or-true}
 use mathlib.Core.List.{List, [], _∷_}
-use mathlib.Core.Path.{_≡_, ap, sym, subst, _∙_}
+use mathlib.Core.Path.{_≡_, refl, ap, sym, subst, _∙_}
 use native.Mathlib.Omega.{arith}
-use lib.ListN.{length, getD, drop, drop-of-length-le}
+use lib.ListN.{length, getD, set, drop, drop-of-length-le}
 use lib.Seq.{drop-cons, drop-drop, getD-drop}
 use borrow.Author.Tests.{eq-eqb, ne-eqb}
 use Rattle.accounting.specs.Entries.{Usage, Counts, usage, usages, readyUsages, addedLen, addAll, noTags, differ}
-use Rattle.accounting.specs.Row.{addUsage}
+use Rattle.accounting.specs.Inner.{Sought, inserted}
+use Rattle.accounting.specs.Row.{blank, addUsage}
 use Rattle.accounting.specs.Table.{Table, InTagOrder, Valid, Posts, accountsOf, tableOf, onRow}
 use Rattle.accounting.specs.declared.Accounting.{Accounting}
 use Rattle.accounting.specs.declared.Posted.{Posted}
-use Rattle.accounting.proofs.Handing.{handed-fit, handed-full, on-row-order}
+use Rattle.accounting.specs.declared.TagSpace.{TagSpace}
+use Rattle.accounting.specs.declared.table.Spot.{Spot}
+use Rattle.accounting.proofs.Handing.{handed-fit, handed-full, posts-known, posts-unknown, on-row-order}
 use Rattle.accounting.proofs.Rows.{put-more}
 use Rattle.accounting.proofs.Tables.{table-accounts, accounts-valid, count-rows}
 use Rattle.numbers.proofs.Cases.{by-lt}
@@ -55,7 +58,7 @@ module _ {all rest : List Usage} {a : Accounting} (g : Counting all rest a) wher
     unfolding addAll
     now-rest = g .now ∙ ap (λ (l : List Usage). addAll l (tableOf a)) r
 
-    pub counts-on : p .refusal ≡ 0 → Counting all us (p .accounts)
+    counts-on : p .refusal ≡ 0 → Counting all us (p .accounts)
     counts-on z =
         let e = q .answer (g .valid) in
         by-lt 96 (length (next .rows))
@@ -67,7 +70,7 @@ module _ {all rest : List Usage} {a : Accounting} (g : Counting all rest a) wher
           now = now-rest ∙ ap (addAll us) (sym (ap tableOf s ∙ table-accounts next));
         })
 
-    pub counts-refused : (p .refusal ≡ 0 → ⊥) → Counts false all (record { refusal = p .refusal; accounts = accountsOf noTags })
+    counts-refused : (p .refusal ≡ 0 → ⊥) → Counts false all (record { refusal = p .refusal; accounts = accountsOf noTags })
     counts-refused n =
         let e = q .answer (g .valid) in
         by-lt 96 (length (next .rows))
@@ -80,6 +83,21 @@ module _ {all rest : List Usage} {a : Accounting} (g : Counting all rest a) wher
           valid = accounts-valid noTags (omega arith) tt;
         })
         (λ l. absurd (n (ap (λ (b : Posted). b .refusal) (e ∙ handed-fit (tableOf a) next l))))
+
+  -- one more, by what the search found
+  module _ (u : Usage) (us : List Usage) (r : rest ≡ u ∷ us) (s : Spot) (f : Sought a (u .tag) s) (x : TagSpace) where
+    abbrev rule : TagSpace → TagSpace
+    rule = addUsage (u .logical) (u .physical)
+
+    pub counts-known : s .known ≡ true → x ≡ rule (getD (a .rows) (s .at) (blank 0)) → Counting all us (record { rows = set (a .rows) (s .at) x; count = a .count; reserved = a .reserved })
+    counts-known z q = counts-on u us r _ (posts-known a (u .tag) s f rule (λ y. refl) x z q) refl
+
+    module _ (z : s .known ≡ false) (q : x ≡ rule (blank (u .tag))) (p : Posted) (e : p ≡ inserted (s .at) x a) where
+      pub counts-new : p .refusal ≡ 0 → Counting all us (p .accounts)
+      counts-new = counts-on u us r p (posts-unknown a (u .tag) s f rule (λ y. refl) x z q p e)
+
+      pub counts-full : (p .refusal ≡ 0 → ⊥) → Counts false all (record { refusal = p .refusal; accounts = accountsOf noTags })
+      counts-full = counts-refused u us r p (posts-unknown a (u .tag) s f rule (λ y. refl) x z q p e)
 
   pub counts-end : rest ≡ [] → Counts false all (record { refusal = 0; accounts = a })
   unfolding addAll

@@ -165,6 +165,15 @@ posted-keeps (Reserve b) r = refl
 posted-keeps (Unreserve b) r = refl
 posted-keeps (SetCap k) r = refl
 
+-- ---- what is promised of a posting, by what the search found
+
+module _ (a : Accounting) (tag : ℕ) (s : Spot) (f : Sought a tag s) (rule : TagSpace → TagSpace) (keeps : KeepsTag rule) (x : TagSpace) where
+  pub posts-known : s .known ≡ true → x ≡ rule (getD (a .rows) (s .at) (blank 0)) → Posts a (onRow tag rule) (record { refusal = 0; accounts = record { rows = set (a .rows) (s .at) x; count = a .count; reserved = a .reserved } })
+  posts-known z q = posts a (onRow tag rule) _ (on-row-order tag rule) (λ v. post-known a v tag s f z rule keeps x q)
+
+  pub posts-unknown : s .known ≡ false → x ≡ rule (blank tag) → (p : Posted) → p ≡ inserted (s .at) x a → Posts a (onRow tag rule) p
+  posts-unknown z q p e = posts a (onRow tag rule) p (on-row-order tag rule) (λ v. e ∙ post-unknown a v tag s f z rule keeps x q)
+
 -- ---- the total beside the rows
 
 total-of : (n : ℕ) (t : Table) → record { rows = accountsOf t .rows; count = accountsOf t .count; reserved = n } ≡ accountsOf (withTotal n t)

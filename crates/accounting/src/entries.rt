@@ -2,6 +2,8 @@
 use crate::Accounting;
 use crate::ExtentLen;
 use crate::Posted;
+use crate::TOP;
+use crate::TagSpace;
 use crate::extent_len;
 use crate::refused;
 ghost use mathlib.Core.Path.{_≡_};
@@ -23,7 +25,8 @@ pub(crate) fn extent_len_or(data_size: u64, block: u64, other: u64) -> u64
     }
 }
 
-// The accounts after each usage in turn.
+// The accounts after each usage in turn. A known tag's row is changed where it stands: to hand the
+// accounts to a call and back takes more than twice the time.
 pub(crate) fn count_usage(tags: &[u32], logical: &[u64], physical: &[u64]) -> Posted
     requires { ⌜ (length (now logical) ≡ length (now tags)) × (length (now physical) ≡ length (now tags)) ⌝ }
     ensures { λ r. ⌜ Counts false (usages (now (tags .entry)) (now (logical .entry)) (now (physical .entry))) r ⌝ }
@@ -31,12 +34,22 @@ pub(crate) fn count_usage(tags: &[u32], logical: &[u64], physical: &[u64]) -> Po
     let mut accounts = Accounting::empty();
     let mut i = 0;
     while i < tags.len() {
-        let p = accounts.add_usage(tags[i], logical[i], physical[i]);
+        let tag = tags[i];
+        let data = logical[i];
+        let bytes = physical[i];
+        i += 1;
+        let spot = accounts.find(tag);
+        let at = spot.at;
+        if spot.known {
+            let row = accounts.rows[at];
+            accounts.rows[at] = row.add_usage(data, bytes);
+            continue;
+        }
+        let p = accounts.insert(at, TagSpace::blank(tag).add_usage(data, bytes));
         if p.refusal != 0 {
             return refused(p.refusal);
         }
         accounts = p.accounts;
-        i += 1;
     }
     Posted {
         refusal: 0,
@@ -44,7 +57,7 @@ pub(crate) fn count_usage(tags: &[u32], logical: &[u64], physical: &[u64]) -> Po
     }
 }
 
-// The accounts after each Ready entry in turn.
+// The accounts after each Ready entry in turn, in the same way.
 pub(crate) fn count_entries(states: &[u8], tags: &[u32], sizes: &[u64], block: u64) -> Posted
     requires { ⌜ (length (now states) ≡ length (now tags)) × (length (now sizes) ≡ length (now tags)) ⌝ }
     ensures { λ r. ⌜ Counts false (readyUsages block (now (states .entry)) (now (tags .entry)) (now (sizes .entry))) r ⌝ }
@@ -52,12 +65,22 @@ pub(crate) fn count_entries(states: &[u8], tags: &[u32], sizes: &[u64], block: u
     let mut accounts = Accounting::empty();
     let mut i = 0;
     while i < tags.len() {
-        let at = i;
+        let state = states[i];
+        let tag = tags[i];
+        let data = sizes[i];
         i += 1;
-        if states[at] != READY {
+        if state != READY {
             continue;
         }
-        let p = accounts.add(tags[at], sizes[at], block);
+        let bytes = extent_len_or(data, block, TOP);
+        let spot = accounts.find(tag);
+        let at = spot.at;
+        if spot.known {
+            let row = accounts.rows[at];
+            accounts.rows[at] = row.add_usage(data, bytes);
+            continue;
+        }
+        let p = accounts.insert(at, TagSpace::blank(tag).add_usage(data, bytes));
         if p.refusal != 0 {
             return refused(p.refusal);
         }

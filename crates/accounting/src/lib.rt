@@ -15,7 +15,7 @@ ghost use Rattle.accounting.specs.Entries.{Counts, noTags, usages, ready
 ghost use Rattle.accounting.specs.Row.{blank, addUsage, removeUsage, setCap};
 ghost use Rattle.accounting.specs.Table.{Valid, Posts, Asks, accountsOf, tableOf, onRow, reserving, unreserving, rowOf};
 
-const TOP: u64 = 0xffff_ffff_ffff_ffff;
+pub(crate) const TOP: u64 = 0xffff_ffff_ffff_ffff;
 
 // The most tags.
 pub(crate) const MOST: usize = 96;

@@ -4,7 +4,7 @@ use native.Mathlib.Omega.{arith}
 use borrow.Author.Needs.{needs}
 use Rattle.accounting.specs.Inner.{posted}
 use Rattle.accounting.proofs.Accounting.post.Statement.{statement}
-use Rattle.accounting.proofs.Handing.{posts, on-row-order, posted-keeps, post-known, post-unknown}
+use Rattle.accounting.proofs.Handing.{posted-keeps, posts-known, posts-unknown}
 use Rattle.accounting.proofs.Accounting.post.Tie as tie
 
 find-requires : tie.Need-find-requires
@@ -26,7 +26,7 @@ element-set-from-self : tie.Need-element-set-from-self
 element-set-from-self c = let h = c .before .before .before .find .ensures .few (c .before .before .if1 .taken) in omega (arith, h .0, h .1)
 
 returns : tie.Need-returns
-returns c = let a = c .before .before .before .before .args in posts (a .t1) _ _ (on-row-order (a .tag) (posted (a .posting))) (λ v. post-known (a .t1) v (a .tag) (c .before .before .before .find .result) (c .before .before .before .find .ensures) (c .before .before .if1 .taken) (posted (a .posting)) (posted-keeps (a .posting)) (c .posted .result) (c .posted .ensures))
+returns c = let a = c .before .before .before .before .args in posts-known (a .t1) (a .tag) (c .before .before .before .find .result) (c .before .before .before .find .ensures) (posted (a .posting)) (posted-keeps (a .posting)) (c .posted .result) (c .before .before .if1 .taken) (c .posted .ensures)
 
 blank-requires : tie.Need-blank-requires
 blank-requires c κs = search needs
@@ -38,7 +38,7 @@ insert-requires : tie.Need-insert-requires
 insert-requires c κs = c .before .before .before .find .ensures .inside
 
 returns-2 : tie.Need-returns-2
-returns-2 c = let a = c .before .before .before .before .before .args in posts (a .t1) _ _ (on-row-order (a .tag) (posted (a .posting))) (λ v. c .insert .ensures ∙ post-unknown (a .t1) v (a .tag) (c .before .before .before .before .find .result) (c .before .before .before .before .find .ensures) (c .before .before .before .if1 .left) (posted (a .posting)) (posted-keeps (a .posting)) (c .before .posted2 .result) (c .before .posted2 .ensures ∙ ap (posted (a .posting)) (c .before .before .blank .ensures)))
+returns-2 c = let a = c .before .before .before .before .before .args in posts-unknown (a .t1) (a .tag) (c .before .before .before .before .find .result) (c .before .before .before .before .find .ensures) (posted (a .posting)) (posted-keeps (a .posting)) (c .before .posted2 .result) (c .before .before .before .if1 .left) (c .before .posted2 .ensures ∙ ap (posted (a .posting)) (c .before .before .blank .ensures)) (c .insert .result) (c .insert .ensures)
 
 pub post-spec : {M : Type 1} → statement M
 post-spec =

@@ -1,10 +1,12 @@
 -- `accounting::entries::count_usage` meets its contract: some usages counted, the rest to come.
 use Prim.Native.Nat.{_-_}
+use mathlib.Core.Path.{ap, _∙_}
 use native.Mathlib.Omega.{arith}
 use lib.ListN.{length, drop}
 use borrow.Author.Needs.{needs}
 use Rattle.accounting.specs.Entries.{usages}
-use Rattle.accounting.proofs.Counting.{Counting, counts-begin, counts-on, counts-refused, counts-end, usages-next, usages-end}
+use Rattle.accounting.specs.Row.{addUsage}
+use Rattle.accounting.proofs.Counting.{Counting, counts-begin, counts-known, counts-new, counts-full, counts-end, usages-next, usages-end}
 use Rattle.accounting.proofs.entries.count_usage.Statement.{statement}
 use Rattle.accounting.proofs.entries.count_usage.Tie as tie
 
@@ -20,41 +22,71 @@ empty-requires c κs = search needs
 loop-holds : tie.Need-loop-holds Inv-loop μ-loop
 loop-holds c = counts-begin _ (c .empty .result) (c .empty .ensures .0)
 
-mul-add-usage : tie.Need-mul-add-usage Inv-loop μ-loop
-mul-add-usage c = search needs
+mul-tag : tie.Need-mul-tag Inv-loop μ-loop
+mul-tag c = search needs
 
-shared-slice-read-add-usage : tie.Need-shared-slice-read-add-usage Inv-loop μ-loop
-shared-slice-read-add-usage c = c .before .loop-test .taken
+shared-slice-read-tag : tie.Need-shared-slice-read-tag Inv-loop μ-loop
+shared-slice-read-tag c = c .before .loop-test .taken
 
-mul-add-usage-2 : tie.Need-mul-add-usage-2 Inv-loop μ-loop
-mul-add-usage-2 c = search needs
+mul-data : tie.Need-mul-data Inv-loop μ-loop
+mul-data c = search needs
 
-shared-slice-read-add-usage-2 : tie.Need-shared-slice-read-add-usage-2 Inv-loop μ-loop
-shared-slice-read-add-usage-2 c = let h = c .before .before .before .before .before .before .before .before .pre in omega (arith, h .0, c .before .before .loop-test .taken)
+shared-slice-read-data : tie.Need-shared-slice-read-data Inv-loop μ-loop
+shared-slice-read-data c = let h = c .before .before .before .before .before .before .before .before .pre in omega (arith, h .0, c .before .before .loop-test .taken)
 
-mul-add-usage-3 : tie.Need-mul-add-usage-3 Inv-loop μ-loop
-mul-add-usage-3 c = search needs
+mul-bytes : tie.Need-mul-bytes Inv-loop μ-loop
+mul-bytes c = search needs
 
-shared-slice-read-add-usage-3 : tie.Need-shared-slice-read-add-usage-3 Inv-loop μ-loop
-shared-slice-read-add-usage-3 c = let h = c .before .before .before .before .before .before .before .before .before .pre in omega (arith, h .1, c .before .before .before .loop-test .taken)
+shared-slice-read-bytes : tie.Need-shared-slice-read-bytes Inv-loop μ-loop
+shared-slice-read-bytes c = let h = c .before .before .before .before .before .before .before .before .before .pre in omega (arith, h .1, c .before .before .before .loop-test .taken)
+
+add-i : tie.Need-add-i Inv-loop μ-loop
+add-i c = search needs
+
+find-requires : tie.Need-find-requires Inv-loop μ-loop
+find-requires c κs = search needs
+
+mul-row : tie.Need-mul-row Inv-loop μ-loop
+mul-row c = let h = c .before .find .ensures .few (c .if1 .taken) in omega (arith, h .0, h .1)
+
+element-copy-out-row : tie.Need-element-copy-out-row Inv-loop μ-loop
+element-copy-out-row c = let h = c .before .find .ensures .few (c .if1 .taken) in omega (arith, h .0, h .1)
 
 add-usage-requires : tie.Need-add-usage-requires Inv-loop μ-loop
 add-usage-requires c κs = search needs
 
-refused-requires : tie.Need-refused-requires Inv-loop μ-loop
-refused-requires c κs = search needs
+mul-t22 : tie.Need-mul-t22 Inv-loop μ-loop
+mul-t22 c = let h = c .before .before .before .find .ensures .few (c .before .before .if1 .taken) in omega (arith, h .0, h .1)
 
-returns : tie.Need-returns Inv-loop μ-loop
-returns c = let a = c .before .before .before .before .before .before .before .before .before .before .before .before .before .args in rw (c .refused .ensures) (counts-refused (c .before .before .before .before .before .before .before .before .loop .inv) _ _ (usages-next (a .tags .now) (a .logical .now) (a .physical .now) (c .before .before .before .before .before .before .before .before .loop .i) (c .before .before .before .before .before .before .before .loop-test .taken)) (c .before .before .before .add-usage .result) (c .before .before .before .add-usage .ensures) (c .before .if1 .taken))
-
-add-i : tie.Need-add-i Inv-loop μ-loop
-add-i c = search needs
+element-set-from-accounts : tie.Need-element-set-from-accounts Inv-loop μ-loop
+element-set-from-accounts c = let h = c .before .before .before .find .ensures .few (c .before .before .if1 .taken) in omega (arith, h .0, h .1)
 
 loop-less : tie.Need-loop-less Inv-loop μ-loop
 loop-less c = omega (arith, c .before .before .before .before .before .before .before .loop-test .taken)
 
 loop-again : tie.Need-loop-again Inv-loop μ-loop
-loop-again c = let a = c .before .before .before .before .before .before .before .before .before .before .before .before .before .args in counts-on (c .before .before .before .before .before .before .before .before .loop .inv) _ _ (usages-next (a .tags .now) (a .logical .now) (a .physical .now) (c .before .before .before .before .before .before .before .before .loop .i) (c .before .before .before .before .before .before .before .loop-test .taken)) (c .before .before .before .add-usage .result) (c .before .before .before .add-usage .ensures) (c .before .if1 .left)
+loop-again c = let a = c .before .before .before .before .before .before .before .before .before .before .before .before .before .args in counts-known (c .before .before .before .before .before .before .before .before .loop .inv) _ _ (usages-next (a .tags .now) (a .logical .now) (a .physical .now) (c .before .before .before .before .before .before .before .before .loop .i) (c .before .before .before .before .before .before .before .loop-test .taken)) (c .before .before .before .find .result) (c .before .before .before .find .ensures) (c .add-usage .result) (c .before .before .if1 .taken) (c .add-usage .ensures)
+
+blank-requires : tie.Need-blank-requires Inv-loop μ-loop
+blank-requires c κs = search needs
+
+add-usage-requires-2 : tie.Need-add-usage-requires-2 Inv-loop μ-loop
+add-usage-requires-2 c κs = search needs
+
+insert-requires : tie.Need-insert-requires Inv-loop μ-loop
+insert-requires c κs = c .before .before .before .find .ensures .inside
+
+refused-requires : tie.Need-refused-requires Inv-loop μ-loop
+refused-requires c κs = search needs
+
+returns : tie.Need-returns Inv-loop μ-loop
+returns c = let a = c .before .before .before .before .before .before .before .before .before .before .before .before .before .before .before .before .before .args in rw (c .refused .ensures) (counts-full (c .before .before .before .before .before .before .before .before .before .before .before .before .loop .inv) _ _ (usages-next (a .tags .now) (a .logical .now) (a .physical .now) (c .before .before .before .before .before .before .before .before .before .before .before .before .loop .i) (c .before .before .before .before .before .before .before .before .before .before .before .loop-test .taken)) (c .before .before .before .before .before .before .before .find .result) (c .before .before .before .before .before .before .before .find .ensures) (c .before .before .before .before .add-usage2 .result) (c .before .before .before .before .before .before .if1 .left) (c .before .before .before .before .add-usage2 .ensures ∙ ap (addUsage _ _) (c .before .before .before .before .before .blank .ensures)) (c .before .before .before .insert .result) (c .before .before .before .insert .ensures) (c .before .if2 .taken))
+
+loop-less-2 : tie.Need-loop-less-2 Inv-loop μ-loop
+loop-less-2 c = omega (arith, c .before .before .before .before .before .before .before .before .before .before .before .loop-test .taken)
+
+loop-again-2 : tie.Need-loop-again-2 Inv-loop μ-loop
+loop-again-2 c = let a = c .before .before .before .before .before .before .before .before .before .before .before .before .before .before .before .before .before .args in counts-new (c .before .before .before .before .before .before .before .before .before .before .before .before .loop .inv) _ _ (usages-next (a .tags .now) (a .logical .now) (a .physical .now) (c .before .before .before .before .before .before .before .before .before .before .before .before .loop .i) (c .before .before .before .before .before .before .before .before .before .before .before .loop-test .taken)) (c .before .before .before .before .before .before .before .find .result) (c .before .before .before .before .before .before .before .find .ensures) (c .before .before .before .before .add-usage2 .result) (c .before .before .before .before .before .before .if1 .left) (c .before .before .before .before .add-usage2 .ensures ∙ ap (addUsage _ _) (c .before .before .before .before .before .blank .ensures)) (c .before .before .before .insert .result) (c .before .before .before .insert .ensures) (c .before .if2 .left)
 
 returns-2 : tie.Need-returns-2 Inv-loop μ-loop
 returns-2 c = let a = c .before .before .before .before .before .before .args in counts-end (c .before .loop .inv) (usages-end (a .tags .now) (a .logical .now) (a .physical .now) (c .before .loop .i) (c .loop-test .left))
@@ -67,16 +99,26 @@ count-usage-spec =
     μ-loop
     empty-requires
     loop-holds
-    mul-add-usage
-    shared-slice-read-add-usage
-    mul-add-usage-2
-    shared-slice-read-add-usage-2
-    mul-add-usage-3
-    shared-slice-read-add-usage-3
-    add-usage-requires
-    refused-requires
-    returns
+    mul-tag
+    shared-slice-read-tag
+    mul-data
+    shared-slice-read-data
+    mul-bytes
+    shared-slice-read-bytes
     add-i
+    find-requires
+    mul-row
+    element-copy-out-row
+    add-usage-requires
+    mul-t22
+    element-set-from-accounts
     loop-less
     loop-again
+    blank-requires
+    add-usage-requires-2
+    insert-requires
+    refused-requires
+    returns
+    loop-less-2
+    loop-again-2
     returns-2)
