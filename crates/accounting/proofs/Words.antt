@@ -266,3 +266,16 @@ module _ (tag : ℕ) where
   has-usage (u ∷ us) t (inl (inl e)) = has-usage us _ (inr (subst (λ (n : ℕ). HasRow n (onRow (u .tag) (addUsage (u .logical) (u .physical)) t .rows)) e (tag-has (u .tag) (addUsage (u .logical) (u .physical)) (λ r. refl) t)))
   has-usage (u ∷ us) t (inl (inr a)) = has-usage us _ (inl a)
   has-usage (u ∷ us) t (inr h) = has-usage us _ (inr (others-have (u .tag) (addUsage (u .logical) (u .physical)) (λ r. refl) t tag h))
+
+-- each usage makes one row at most, so 96 of them are never refused
+pub usage-count : (us : List Usage) (t : Table) → length (addAll us t .rows) ≤ length (t .rows) + length us
+unfolding addAll onRow
+usage-count [] t = omega arith
+usage-count (u ∷ us) t =
+    let n : Table = onRow (u .tag) (addUsage (u .logical) (u .physical)) t in
+    let h : length (n .rows) ≤ length (t .rows) + 1 = put-least _ (t .rows) in
+    let k : length (addAll us n .rows) ≤ length (n .rows) + length us = usage-count us n in
+    omega (arith, h, k)
+
+pub few-usages : (us : List Usage) → length us ≤ 96 → handed noTags (addAll us noTags) ≡ record { refusal = 0; accounts = accountsOf (addAll us noTags) }
+few-usages us h = let k = usage-count us noTags in handed-fit noTags (addAll us noTags) (omega (arith, k, h))

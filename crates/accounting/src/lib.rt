@@ -46,14 +46,14 @@ pub struct Accounting {
     pub reserved: u64,
 }
 
-// Document 01's refusal, 0 where there is none, and the accounts, which a refused call leaves as they
-// were.
+// Document 01's refusal, 0 where there is none, and the accounts. A refused posting hands them back as
+// they were, a refused list those of no tag.
 pub struct Posted {
     pub refusal: u64,
     pub accounts: Accounting,
 }
 
-// The same, and whether the bytes fit.
+// The same of a question, and whether the bytes fit.
 pub struct Asked {
     pub refusal: u64,
     pub fits: bool,
@@ -88,7 +88,7 @@ pub fn extent_len(data_size: u64, block: u64) -> ExtentLen
     ExtentLen::Bytes(2 * block + data_size)
 }
 
-// A refusal before anything is counted.
+// A refused list.
 pub(crate) fn refused(refusal: u64) -> Posted
     ensures { λ r. ⌜ r ≡ record { refusal = refusal; accounts = accountsOf noTags } ⌝ }
 {
