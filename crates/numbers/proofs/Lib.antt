@@ -2,6 +2,7 @@ pub mod Cases
 pub mod Lists
 pub mod Sums
 pub mod Ranges
+pub mod Disjoint
 pub mod Pairs
 pub mod Order
 pub mod Powers

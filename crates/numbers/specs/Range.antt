@@ -1,8 +1,9 @@
 -- Document 01, head: ranges, their ends and bytes, and when two meet.
 use Prim.Native.Nat.{ℕ, _+_, _≤_, _<_, min, max}
 use mathlib.Core.Bool.{Bool, _&&_}
-use mathlib.Core.List.{List, map}
+use mathlib.Core.List.{List, [], _∷_, map}
 use lib.Dec.{ltb, leb}
+use Rattle.numbers.specs.Lists.{All}
 use Rattle.numbers.specs.Sums.{stop, sum}
 
 -- "A range is a pair (offset, length)".
@@ -39,6 +40,16 @@ pub record Meet (r q : Range) : Type 0 where
 -- The same as a test; `meets-true` and `meets-false` (proofs/Ranges) tie it to `Meet`.
 unfoldable pub meets : Range → Range → Bool
 meets r q = ltb (max (r .offset) (q .offset)) (min (endOf r) (endOf q))
+
+-- No two ranges of a list meet; `disjoint-at` and `at-disjoint` (proofs/Disjoint) say it with their places.
+abbrev pub Disjoint : List Range → Type 0
+Disjoint [] = Unit {0}
+Disjoint (r ∷ rs) = All (λ (q : Range). Meet r q → ⊥) rs × Disjoint rs
+
+-- A range lies from a up to b.
+pub record Within (a b : ℕ) (r : Range) : Type 0 where
+  pub from : a ≤ r .offset
+  pub upto : r .offset + r .len ≤ b
 
 -- The lengths of a list of ranges together, in whole numbers.
 abbrev pub total : List Range → ℕ
