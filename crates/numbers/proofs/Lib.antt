@@ -7,4 +7,5 @@ pub mod Pairs
 pub mod Order
 pub mod Powers
 pub mod Refusals
+pub mod Answers
 pub mod Halving

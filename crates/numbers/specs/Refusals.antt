@@ -15,6 +15,15 @@ unfoldable pub first : List ℕ → ℕ
 first [] = 0
 first (n ∷ ns) = cond (eqb n 0) (first ns) n
 
+-- What a call answers: a value, or "its number alone". No refusal, one of 0 neither, is an acceptance.
+pub data Answer (A : Type 0) : Type 0 where
+  accepted : A → Answer A
+  refused : ℕ → Answer A
+
+-- The value where no test failed, else the number.
+unfoldable pub answer : {A : Type 0} → ℕ → A → Answer A
+answer n v = cond (eqb n 0) (accepted v) (refused n)
+
 -- "11 and 12's first half extent by extent": 11 by a test of the extent alone, 12, "The sum of extents passes 2^64 - 1", of
 -- the lengths up to each extent.
 unfoldable pub eachExtent : (Range → Bool) → ℕ → List Range → ℕ
