@@ -8,6 +8,7 @@ use lib.Dec.{leb}
 use lib.ListN.{length, getD}
 use borrow.Author.Tests.{lt-leb, le-leb}
 use Rattle.numbers.specs.Search.{Rising, Found}
+use Rattle.numbers.specs.Sums.{stop}
 use Rattle.numbers.proofs.Cases.{by-lt, cases}
 use mir.Val.{boolByte}
 
@@ -59,7 +60,7 @@ module _ {ss : List ℕ} {count p lo n : ℕ} (g : Halving ss count p lo n) wher
           above = λ r j a b. let o = r (lo + step - 1) j (omega (arith, a)) b in omega (arith, h, o);
         }
 
-    pub halving-on : count < 2 ^ 64 → (next : ℕ) → next ≡ (lo + cond (leb (getD ss (lo + step - 1) 0) p) step 0) % 2 ^ 64 → Halving ss count p next (n / 2)
+    pub halving-on : count < 2 ^ 64 → (next : ℕ) → next ≡ stop (lo + cond (leb (getD ss (lo + step - 1) 0) p) step 0) → Halving ss count p next (n / 2)
     halving-on f next e =
         by-lt p (getD ss (lo + step - 1) 0)
         (λ h. let d = rw (lt-leb (getD ss (lo + step - 1) 0) p h) at e in let n : next ≡ lo = omega (arith, d, g .inside) in rw n (down h))
@@ -79,5 +80,5 @@ module _ (b : Bool) where
   pub one-bit : boolByte b < 64
   one-bit = cases b (λ e. rw e (omega arith)) (λ e. rw e (omega arith))
 
-  pub advanced : (lo step less : ℕ) → lo < 2 ^ 64 → step < 2 ^ 64 → less < 2 ^ 64 → (less + step) % 2 ^ 64 ≡ step * 2 ^ boolByte b % 2 ^ 64 → (lo + less) % 2 ^ 64 ≡ (lo + cond b step 0) % 2 ^ 64
-  advanced lo step less h k m e = cases b (λ t. let f = rw t at e in rw t (omega (arith, f))) (λ t. let f = rw t at e in rw t (omega (arith, f)))
+  pub advanced : (step more : ℕ) → step < 2 ^ 64 → more < 2 ^ 64 → (more + step) % 2 ^ 64 ≡ step * 2 ^ boolByte b % 2 ^ 64 → more ≡ cond b step 0
+  advanced step more k m e = cases b (λ t. let f = rw t at e in rw t (omega (arith, f))) (λ t. let f = rw t at e in rw t (omega (arith, f)))

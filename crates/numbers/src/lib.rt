@@ -1,10 +1,9 @@
 // What the language lacks and several crates want: sums and differences that stop, a sum held against a
 // limit, the step of a halving search, and the test for a power of two.
-use std::num::wrapping_add_usize;
 use std::num::wrapping_sub_usize;
 ghost use mathlib.Core.Bool.{cond};
 ghost use mathlib.Core.Path.{_≡_};
-ghost use Prim.Native.Nat.{_+_, _-_, _%_, _^_};
+ghost use Prim.Native.Nat.{_+_, _-_};
 ghost use lib.Dec.{ltb};
 ghost use Rattle.numbers.specs.Sums.{stop};
 ghost use Rattle.numbers.specs.Powers.{isPowerOfTwo};
@@ -49,10 +48,14 @@ pub fn is_power_of_two(n: u64) -> bool
     n & (n - 1) == 0
 }
 
-// lo + step where up, else lo, modulo 2^64. By a shift and not by a branch, which a search would guess
-// wrong every other time.
+// lo + step where up, else lo, or 2^64 - 1 where the sum passes it. By a shift and not by a branch, which
+// a search would guess wrong every other time.
 pub fn advance(lo: usize, step: usize, up: bool) -> usize
-    ensures { λ r. ⌜ r ≡ (lo + cond up step 0) % 2 ^ 64 ⌝ }
+    ensures { λ r. ⌜ r ≡ stop (lo + cond up step 0) ⌝ }
 {
-    wrapping_add_usize(lo, wrapping_sub_usize(step << (up as usize), step))
+    let more = wrapping_sub_usize(step << (up as usize), step);
+    if 0xffff_ffff_ffff_ffff - lo < more {
+        return 0xffff_ffff_ffff_ffff;
+    }
+    lo + more
 }

@@ -1,5 +1,7 @@
 -- `numbers::advance` meets its contract: the step is shifted by one bit or by none.
-use mathlib.Core.Path.{_∙_}
+use mathlib.Core.Bool.{cond}
+use mathlib.Core.Path.{_≡_}
+use native.Mathlib.Omega.{arith}
 use borrow.Author.Needs.{needs}
 use Rattle.numbers.proofs.Halving.{one-bit, advanced}
 use Rattle.numbers.proofs.advance.Statement.{statement}
@@ -14,11 +16,17 @@ shl-wrapping-sub-usize c = one-bit (c .args .up)
 wrapping-sub-usize-requires : tie.Need-wrapping-sub-usize-requires
 wrapping-sub-usize-requires c κs = search needs
 
-wrapping-add-usize-requires : tie.Need-wrapping-add-usize-requires
-wrapping-add-usize-requires c κs = search needs
+sub-if1 : tie.Need-sub-if1
+sub-if1 c = search needs
 
 returns : tie.Need-returns
-returns c = (c .wrapping-add-usize .ensures) ∙ advanced (c .before .before .args .up) (c .before .before .args .lo) (c .before .before .args .step) _ (search needs) (search needs) (search needs) (c .before .wrapping-sub-usize .ensures)
+returns c = let e = advanced (c .before .before .args .up) _ _ (search needs) (search needs) (c .before .wrapping-sub-usize .ensures) in omega (arith, e, c .if1 .taken)
+
+add-result : tie.Need-add-result
+add-result c = search needs
+
+returns-2 : tie.Need-returns-2
+returns-2 c = let e = advanced (c .before .before .args .up) _ _ (search needs) (search needs) (c .before .wrapping-sub-usize .ensures) in omega (arith, e, c .if1 .left)
 
 pub advance-spec : {M : Type 1} → statement M
 advance-spec =
@@ -27,5 +35,7 @@ advance-spec =
     cast-wrapping-sub-usize
     shl-wrapping-sub-usize
     wrapping-sub-usize-requires
-    wrapping-add-usize-requires
-    returns)
+    sub-if1
+    returns
+    add-result
+    returns-2)
