@@ -10,7 +10,7 @@ use lib.ListN.{length, take, drop, getD, drop-of-length-le}
 use lib.Pow.{pow-pos}
 use lib.Seq.{drop-cons, length-take-le, take-at}
 use borrow.Author.Tests.{ne-eqb, eqb-true}
-use Rattle.footprint.specs.Footprint.{outside, Answer, answerOf, checkOf, Checked, committed, ranges, footprintOf, overlaps, entryTests, headerTests, extentTests, overlapTests, refusalOf, Filled}
+use Rattle.footprint.specs.Footprint.{outside, answerOf, checkOf, extraOf, Checked, committed, ranges, footprintOf, overlaps, entryTests, headerTests, extentTests, overlapTests, refusalOf, Filled}
 use Rattle.footprint.specs.Inner.{beforeLast, neighboursMeet, LaidOut, Reported}
 use Rattle.footprint.specs.declared.Entry.{Entry}
 use Rattle.footprint.specs.declared.Header.{Header}
@@ -19,10 +19,11 @@ use Rattle.footprint.specs.declared.Verdict.the-variants.{Usable, Ahead,
 use Rattle.numbers.specs.Lists.{All, written}
 use Rattle.numbers.specs.Pairs.{pairs, flat}
 use Rattle.numbers.specs.Range.{Range, range, blank}
-use Rattle.numbers.specs.Refusals.{first, refuse}
+use Rattle.numbers.specs.Refusals.{first, refuse, Answer, accepted, numberOf, isAccepted, valueOr}
 use Rattle.numbers.specs.Sums.{top}
 use Rattle.footprint.proofs.Overlap.{Solid, neighbours-decide, overlaps-sorted}
 use Rattle.footprint.proofs.Passed.{Passed, Inside, all-pass}
+use Rattle.numbers.proofs.Answers.{answer-value, answer-number, number-told, accepts-told}
 use Rattle.numbers.proofs.Lists.{all-both}
 use Rattle.numbers.proofs.Pairs.{length-flat, pair-at, pair-in}
 use Rattle.numbers.proofs.Refusals.{first-one, first-go, first-stop, first-parts, first-low, refuse-none, refuse-low, each-low}
@@ -111,7 +112,7 @@ module _ (lim : Limits) (id : ℕ) (e : Entry) (h : Header) (xs s : List ℕ) wh
       let n : refusalOf lim id e h xs (length s) ≡ r = early lim id e h xs (length s) (λ z. d (b ∙ z)) ∙ sym b in
       let l = not-last lim id e h xs (length s) in
       let f : r ≡ 13 → ⊥ = λ z. absurd (omega arith) in
-      record { answer = simp (n, ne-eqb _ _ d); slots = simp (n, ne-eqb _ _ d, ne-eqb _ _ f) }
+      record { answer = sym (rw n (answer-number r _ d)); slots = simp (n, ne-eqb _ _ d, ne-eqb _ _ f) }
 
   module _ {r : ℕ} (b : r ≡ beforeLast lim id e h xs (length s)) (z : r ≡ 0) (t : e .«span_end» ≤ top) {m : Bool} {ys : List ℕ} (o : LaidOut lim e xs ys m) where
     pub passed : Passed lim e h xs (length s)
@@ -130,31 +131,31 @@ module _ (lim : Limits) (id : ℕ) (e : Entry) (h : Header) (xs s : List ℕ) wh
     unfolding refuse
     refused-last w =
         let n : refusalOf lim id e h xs (length s) ≡ 13 = number ∙ ap (refuse 13) w in
-        record { answer = simp n; slots = kept ∙ simp n }
+        record { answer = sym (rw n (answer-number 13 _ (λ z. omega arith))); slots = kept ∙ simp n }
 
     module _ (w : m ≡ false) where
-      accepted : refusalOf lim id e h xs (length s) ≡ 0
+      none : refusalOf lim id e h xs (length s) ≡ 0
       unfolding refuse
-      accepted = number ∙ ap (refuse 13) w
+      none = number ∙ ap (refuse 13) w
 
       pub usable : h .«extent_count» ≤ e .«extent_count» → Filled lim id e h xs s (ys ++ drop (2 * e .«extent_count» + 4 - 0) s) (answerOf Usable)
-      usable l = record { answer = simp (accepted, no-extra passed l); slots = kept ∙ simp accepted }
+      usable l = record { answer = sym (answer-value _ _ none ∙ ap accepted (no-extra passed l)); slots = kept ∙ simp none }
 
       pub ahead : e .«extent_count» < h .«extent_count» → Filled lim id e h xs s (ys ++ drop (2 * e .«extent_count» + 4 - 0) s) (answerOf (Ahead (getD xs (2 * e .«extent_count») 0) (getD xs (2 * e .«extent_count» + 1) 0)))
-      ahead l = record { answer = simp (accepted, one-extra passed l); slots = kept ∙ simp accepted }
+      ahead l = record { answer = sym (answer-value _ _ none ∙ ap accepted (one-extra passed l)); slots = kept ∙ simp none }
 
 -- ---- the part that is handed back
 
 module _ (lim : Limits) (id : ℕ) (e : Entry) (h : Header) (xs s : List ℕ) where
-  module _ {a : Answer} {t : List ℕ} (f : Filled lim id e h xs s t a) {n : ℕ} {old extra : Range} {m : Bool} (g : Reported a n old extra m) where
-    number-told : n ≡ refusalOf lim id e h xs (length s)
-    number-told = g .number ∙ ap (λ (a : Answer). a .number) (f .answer)
+  module _ {a : Answer (List Range)} {t : List ℕ} (f : Filled lim id e h xs s t a) {n : ℕ} {old extra : Range} {m : Bool} (g : Reported a n old extra m) where
+    number-is : n ≡ refusalOf lim id e h xs (length s)
+    number-is = g .number ∙ ap numberOf (f .answer) ∙ number-told _ _
 
-    extra-told : extra ≡ getD (checkOf lim id e h xs (length s) .extra) 0 old
-    extra-told = g .handed ∙ ap (λ (a : Answer). getD (a .extra) 0 old) (f .answer)
+    extra-told : extra ≡ getD (valueOr [] (checkOf lim id e h xs (length s))) 0 old
+    extra-told = g .handed ∙ ap (λ (a : Answer (List Range)). getD (valueOr [] a) 0 old) (f .answer)
 
     told : m ≡ eqb (refusalOf lim id e h xs (length s)) 0
-    told = g .accepts ∙ ap (λ (a : Answer). eqb (a .number) 0) (f .answer)
+    told = g .accepts ∙ ap isAccepted (f .answer) ∙ accepts-told _ _
 
     pub room : m ≡ true → 2 * e .«extent_count» + 4 ≤ length s
     room y = let p = accepted-passed lim id e h xs (length s) (eqb-true _ _ (sym told ∙ y)) .lists .room in omega arith
@@ -164,10 +165,10 @@ module _ (lim : Limits) (id : ℕ) (e : Entry) (h : Header) (xs s : List ℕ) wh
         let z = eqb-true _ _ (sym told ∙ y) in
         let l = footprint-length (accepted-passed lim id e h xs (length s) z) in
         record {
-          number = number-told;
+          number = number-is;
           filled = rw (f .slots, z) (take-at (flat (footprintOf lim e xs)) (drop (length (flat (footprintOf lim e xs))) s) (2 * e .«extent_count» + 4 - 0) (omega arith));
           handed = extra-told;
         }
 
     pub no-part : m ≡ false → Checked lim id e h xs s (take (0 - 0) t) n old extra
-    no-part y = record { number = number-told; filled = simp (sym told ∙ y); handed = extra-told }
+    no-part y = record { number = number-is; filled = simp (sym told ∙ y); handed = extra-told }

@@ -14,6 +14,8 @@ use Rattle.numbers.specs.Lists.{written}
 use Rattle.numbers.specs.Pairs.{pairs}
 use Rattle.numbers.specs.Range.{Range, range, blank}
 use Rattle.numbers.specs.Sums.{top, stop}
+use Rattle.numbers.specs.Refusals.{accepted}
+use Rattle.numbers.proofs.Answers.{one-passes, one-fails}
 use Rattle.numbers.proofs.Cases.{and-true}
 use Rattle.numbers.proofs.Lists.{written-length, written-next}
 use Rattle.numbers.proofs.Pairs.{length-pairs, pair-at, pair-in}
@@ -238,13 +240,13 @@ module _ {xs s₀ s f₀ f l₀ l : List ℕ} {n start k i : ℕ} (g : Joining x
 
 -- what `runs` answers
 module _ {xs s₀ f₀ l₀ : List ℕ} where
-  pub refused : runsFail xs (length s₀) (length f₀) (length l₀) ≡ true → Listed xs s₀ s₀ f₀ f₀ l₀ l₀ (countOf (Refused 1))
-  refused e = record { answer = simp e; starts = simp e; files = simp e; lens = simp e }
+  pub runs-refused : runsFail xs (length s₀) (length f₀) (length l₀) ≡ true → Listed xs s₀ s₀ f₀ f₀ l₀ l₀ (countOf (Refused 1))
+  runs-refused e = record { answer = sym (one-fails 1 _ _ (omega arith) e); starts = simp e; files = simp e; lens = simp e }
 
-  pub accepted : {s f l : List ℕ} {k : ℕ} → runsFail xs (length s₀) (length f₀) (length l₀) ≡ false → Joined (pairs xs) s₀ s f₀ f l₀ l k → Listed xs s₀ s f₀ f l₀ l (countOf (Runs k))
-  accepted e j =
+  pub runs-accepted : {s f l : List ℕ} {k : ℕ} → runsFail xs (length s₀) (length f₀) (length l₀) ≡ false → Joined (pairs xs) s₀ s f₀ f l₀ l k → Listed xs s₀ s f₀ f l₀ l (countOf (Runs k))
+  runs-accepted e j =
       record {
-        answer = simp e (ap (λ (n : ℕ). record { number = 0; runs = n }) (j .count));
+        answer = ap accepted (j .count) ∙ sym (one-passes 1 _ _ e);
         starts = simp e (j .starts);
         files = simp e (j .files);
         lens = simp e (j .lens);

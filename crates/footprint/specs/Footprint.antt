@@ -15,7 +15,7 @@ use Rattle.footprint.specs.declared.Verdict.the-variants.{Usable, Ahead,
 use Rattle.numbers.specs.Lists.{any, written}
 use Rattle.numbers.specs.Pairs.{isOdd, pairs, flat}
 use Rattle.numbers.specs.Range.{Range, range, meets, total}
-use Rattle.numbers.specs.Refusals.{refuse, first, eachExtent}
+use Rattle.numbers.specs.Refusals.{refuse, first, Answer, accepted, refused, answer, valueOr, eachExtent}
 use Rattle.numbers.specs.Sums.{top}
 use Rattle.sort.specs.Sort.{sorted}
 
@@ -146,24 +146,19 @@ unfoldable pub refusalOf : Limits → ℕ → Entry → Header → List ℕ → 
 refusalOf lim id e h xs places =
     first (entryTests lim e h xs places ++ headerTests id e h ++ extentTests lim e (committed e xs) ++ overlapTests (ranges lim e xs))
 
--- Document 01's number, 0 where the region is accepted, and the extra extent, if one is handed out.
-pub record Answer : Type 0 where
-  pub number : ℕ
-  pub extra : List Range
-
-abbrev pub answerOf : Verdict → Answer
-answerOf Usable = record { number = 0; extra = [] }
-answerOf (Ahead offset len) = record { number = 0; extra = range offset len ∷ [] }
-answerOf (Refused n) = record { number = n; extra = [] }
+-- A usable region with the extra extent, if one is handed out; or document 01's number.
+abbrev pub answerOf : Verdict → Answer (List Range)
+answerOf Usable = accepted []
+answerOf (Ahead offset len) = accepted (range offset len ∷ [])
+answerOf (Refused n) = refused n
 
 -- "that extra one is handed out unchecked"
-abbrev pub extraOf : Entry → List ℕ → ℕ → List Range
-extraOf e xs n = cond (eqb n 0) (drop (e .«extent_count») (pairs xs)) []
+abbrev pub extraOf : Entry → List ℕ → List Range
+extraOf e xs = drop (e .«extent_count») (pairs xs)
 
 -- What the check answers.
-abbrev pub checkOf : Limits → ℕ → Entry → Header → List ℕ → ℕ → Answer
-checkOf lim id e h xs places =
-    record { number = refusalOf lim id e h xs places; extra = extraOf e xs (refusalOf lim id e h xs places) }
+abbrev pub checkOf : Limits → ℕ → Entry → Header → List ℕ → ℕ → Answer (List Range)
+checkOf lim id e h xs places = answer (refusalOf lim id e h xs places) (extraOf e xs)
 
 -- Scratch after a refusal n, or 0: "Accepted: the first count + 2 pairs of scratch hold" the footprint; a refused call "changes
 -- nothing, except that 13 leaves the first count + 2 pairs of scratch filled and sorted".
@@ -175,7 +170,7 @@ abbrev pub partOf : Limits → Entry → List ℕ → ℕ → List ℕ
 partOf lim e xs n = cond (eqb n 0) (flat (footprintOf lim e xs)) []
 
 -- What `fill_footprint` promises: its answer, and every slot of scratch.
-pub record Filled (lim : Limits) (id : ℕ) (e : Entry) (h : Header) (xs s₀ s : List ℕ) (a : Answer) : Type 0 where
+pub record Filled (lim : Limits) (id : ℕ) (e : Entry) (h : Header) (xs s₀ s : List ℕ) (a : Answer (List Range)) : Type 0 where
   pub answer : a ≡ checkOf lim id e h xs (length s₀)
   pub slots : s ≡ scratchOf lim e xs (refusalOf lim id e h xs (length s₀)) s₀
 
@@ -184,4 +179,4 @@ pub record Filled (lim : Limits) (id : ℕ) (e : Entry) (h : Header) (xs s₀ s 
 pub record Checked (lim : Limits) (id : ℕ) (e : Entry) (h : Header) (xs s₀ part : List ℕ) (refusal : ℕ) (old extra : Range) : Type 0 where
   pub number : refusal ≡ refusalOf lim id e h xs (length s₀)
   pub filled : part ≡ partOf lim e xs (refusalOf lim id e h xs (length s₀))
-  pub handed : extra ≡ getD (checkOf lim id e h xs (length s₀) .extra) 0 old
+  pub handed : extra ≡ getD (valueOr [] (checkOf lim id e h xs (length s₀))) 0 old

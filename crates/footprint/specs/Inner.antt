@@ -3,9 +3,9 @@ use Prim.Native.Nat.{ℕ, _+_, _-_, _≤_, _<_}
 use mathlib.Core.Bool.{Bool, false, _||_}
 use mathlib.Core.List.{List, [], _∷_, _++_, map}
 use mathlib.Core.Path.{_≡_}
-use lib.Dec.{ltb, eqb}
+use lib.Dec.{ltb}
 use lib.ListN.{length, getD, drop}
-use Rattle.footprint.specs.Footprint.{Answer, committed, footprintOf, entryTests, headerTests, extentTests}
+use Rattle.footprint.specs.Footprint.{committed, footprintOf, entryTests, headerTests, extentTests}
 use Rattle.footprint.specs.Runs.{Run, notEmpty, joinedTo, joined, runsOf}
 use Rattle.footprint.specs.declared.Entry.{Entry}
 use Rattle.footprint.specs.declared.Header.{Header}
@@ -13,7 +13,7 @@ use Rattle.footprint.specs.declared.Limits.{Limits}
 use Rattle.numbers.specs.Lists.{written}
 use Rattle.numbers.specs.Pairs.{flat}
 use Rattle.numbers.specs.Range.{Range, range, blank}
-use Rattle.numbers.specs.Refusals.{first}
+use Rattle.numbers.specs.Refusals.{first, Answer, numberOf, isAccepted, valueOr}
 
 -- Every refusal but 13.
 unfoldable pub beforeLast : Limits → ℕ → Entry → Header → List ℕ → ℕ → ℕ
@@ -31,10 +31,10 @@ pub record LaidOut (lim : Limits) (e : Entry) (xs s : List ℕ) (meet : Bool) : 
   pub answer : meet ≡ neighboursMeet (footprintOf lim e xs)
 
 -- An answer in lent numbers, and whether it accepts.
-pub record Reported (a : Answer) (refusal : ℕ) (old extra : Range) (usable : Bool) : Type 0 where
-  pub number : refusal ≡ a .number
-  pub handed : extra ≡ getD (a .extra) 0 old
-  pub accepts : usable ≡ eqb (a .number) 0
+pub record Reported (a : Answer (List Range)) (refusal : ℕ) (old extra : Range) (usable : Bool) : Type 0 where
+  pub number : refusal ≡ numberOf a
+  pub handed : extra ≡ getD (valueOr [] a) 0 old
+  pub accepts : usable ≡ isAccepted a
 
 -- The run that begins with the extent i has length len, and the extent `next` is the first behind it.
 pub record Reached (xs : List Range) (i len next : ℕ) : Type 0 where

@@ -10,6 +10,7 @@ use Rattle.footprint.specs.declared.RunCount.the-variants.{Runs, Refused
 use Rattle.numbers.specs.Lists.{listAfter}
 use Rattle.numbers.specs.Pairs.{isOdd, pairs}
 use Rattle.numbers.specs.Range.{Range, range}
+use Rattle.numbers.specs.Refusals.{refuse, Answer, accepted, refused, answer}
 use Rattle.numbers.specs.Sums.{top, stop}
 
 -- "A run is its start .., file offset and length."
@@ -71,21 +72,17 @@ runByte r p = r .file + (p - r .start)
 unfoldable pub runsFail : List ℕ → ℕ → ℕ → ℕ → Bool
 runsFail xs s f l = isOdd xs || ltb s (length (pairs xs)) || ltb f (length (pairs xs)) || ltb l (length (pairs xs))
 
--- Document 01's number, 0 where the call is accepted, and how many runs were written.
-pub record Count : Type 0 where
-  pub number : ℕ
-  pub runs : ℕ
-
-abbrev pub countOf : RunCount → Count
-countOf (Runs n) = record { number = 0; runs = n }
-countOf (Refused n) = record { number = n; runs = 0 }
+-- How many runs were written, or document 01's number.
+abbrev pub countOf : RunCount → Answer ℕ
+countOf (Runs n) = accepted n
+countOf (Refused n) = refused n
 
 -- What `runs` answers.
-abbrev pub runsAnswer : List ℕ → ℕ → ℕ → ℕ → Count
-runsAnswer xs s f l = cond (runsFail xs s f l) (record { number = 1; runs = 0 }) (record { number = 0; runs = length (runsOf (pairs xs)) })
+abbrev pub runsAnswer : List ℕ → ℕ → ℕ → ℕ → Answer ℕ
+runsAnswer xs s f l = answer (refuse 1 (runsFail xs s f l)) (length (runsOf (pairs xs)))
 
 -- What `runs` promises: its answer, and every slot of the three lent lists.
-pub record Listed (xs s₀ s f₀ f l₀ l : List ℕ) (c : Count) : Type 0 where
+pub record Listed (xs s₀ s f₀ f l₀ l : List ℕ) (c : Answer ℕ) : Type 0 where
   pub answer : c ≡ runsAnswer xs (length s₀) (length f₀) (length l₀)
   pub starts : s ≡ listAfter (runsFail xs (length s₀) (length f₀) (length l₀)) (map (λ (r : Run). r .start) (runsOf (pairs xs))) s₀
   pub files : f ≡ listAfter (runsFail xs (length s₀) (length f₀) (length l₀)) (map (λ (r : Run). r .file) (runsOf (pairs xs))) f₀

@@ -106,7 +106,7 @@ fn refusal_before(
     extents_refusal(limits, entry, extents)
 }
 
-// Checks a region. Where it is usable, the front of scratch holds its footprint.
+// Checks a region. Where it is usable, or refused with 13, the front of scratch holds its footprint.
 pub fn fill_footprint(
     limits: Limits,
     id: u64,
@@ -149,7 +149,7 @@ fn report(verdict: Verdict, refusal: &mut u64, offset: &mut u64, len: &mut u64) 
         }
         Verdict::Refused(number) => {
             *refusal = number;
-            number == 0
+            false
         }
     }
 }

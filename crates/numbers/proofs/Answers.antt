@@ -1,9 +1,11 @@
 -- Answers: which of the two cases a number makes, and what each case tells.
-use Prim.Native.Nat.{ℕ}
+use Prim.Native.Nat.{ℕ, _<_}
+use mathlib.Core.Bool.{Bool, true, false, cond}
 use mathlib.Core.Path.{_≡_, refl, sym, _∙_}
 use native.Mathlib.Omega.{arith}
+use lib.Dec.{eqb}
 use borrow.Author.Tests.{eq-eqb, ne-eqb}
-use Rattle.numbers.specs.Refusals.{Answer, accepted, refused, answer}
+use Rattle.numbers.specs.Refusals.{refuse, Answer, accepted, refused, answer, numberOf, isAccepted, valueOr}
 use Rattle.numbers.proofs.Cases.{by-eq}
 
 module _ {A : Type 0} where
@@ -35,3 +37,23 @@ module _ {A : Type 0} where
     refused-is k e =
         by-eq n 0 (λ z. absurd (not-both v k (sym (answer-value z) ∙ e)))
         (λ d. let q = same-number n k (sym (answer-number d) ∙ e) in (q, λ z. d (q ∙ z)))
+
+    -- read off it
+    pub number-told : numberOf (answer n v) ≡ n
+    number-told = by-eq n 0 (λ z. rw (answer-value z) (sym z)) (λ d. rw (answer-number d))
+
+    pub accepts-told : isAccepted (answer n v) ≡ eqb n 0
+    accepts-told = by-eq n 0 (λ z. rw (answer-value z, eq-eqb _ _ z)) (λ d. rw (answer-number d, ne-eqb _ _ d))
+
+    pub value-told : (other : A) → valueOr other (answer n v) ≡ cond (eqb n 0) v other
+    value-told other = by-eq n 0 (λ z. rw (answer-value z, eq-eqb _ _ z)) (λ d. rw (answer-number d, ne-eqb _ _ d))
+
+  -- by one test
+  module _ (n : ℕ) (b : Bool) (v : A) where
+    pub one-passes : b ≡ false → answer (refuse n b) v ≡ accepted v
+    unfolding refuse
+    one-passes e = answer-value (refuse n b) v (simp e)
+
+    pub one-fails : 0 < n → b ≡ true → answer (refuse n b) v ≡ refused n
+    unfolding refuse
+    one-fails h e = rw e (answer-number n v (λ z. omega arith))

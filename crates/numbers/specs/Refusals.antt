@@ -1,6 +1,6 @@
 -- Document 01, "Why a call is turned down": which of several refusals is given.
 use Prim.Native.Nat.{ℕ, _+_}
-use mathlib.Core.Bool.{Bool, cond}
+use mathlib.Core.Bool.{Bool, true, false, cond}
 use mathlib.Core.List.{List, [], _∷_}
 use lib.Dec.{ltb, eqb}
 use Rattle.numbers.specs.Range.{Range}
@@ -23,6 +23,20 @@ pub data Answer (A : Type 0) : Type 0 where
 -- The value where no test failed, else the number.
 unfoldable pub answer : {A : Type 0} → ℕ → A → Answer A
 answer n v = cond (eqb n 0) (accepted v) (refused n)
+
+-- "refusal (0 if accepted)"
+abbrev pub numberOf : {A : Type 0} → Answer A → ℕ
+numberOf (accepted v) = 0
+numberOf (refused n) = n
+
+abbrev pub isAccepted : {A : Type 0} → Answer A → Bool
+isAccepted (accepted v) = true
+isAccepted (refused n) = false
+
+-- The value, or another one where there is none.
+abbrev pub valueOr : {A : Type 0} → A → Answer A → A
+valueOr other (accepted v) = v
+valueOr other (refused n) = other
 
 -- "11 and 12's first half extent by extent": 11 by a test of the extent alone, 12, "The sum of extents passes 2^64 - 1", of
 -- the lengths up to each extent.

@@ -7,7 +7,7 @@ use borrow.Author.Needs.{needs}
 use borrow.Author.Tests.{lt-ltb, le-ltb}
 use Rattle.footprint.specs.Runs.{runsFail}
 use Rattle.numbers.specs.Pairs.{isOdd}
-use Rattle.footprint.proofs.Joining.{refused, accepted}
+use Rattle.footprint.proofs.Joining.{runs-refused, runs-accepted}
 use Rattle.footprint.proofs.runs.Statement.{statement}
 use Rattle.numbers.proofs.Pairs.{length-pairs, odd-list, even-list}
 use Rattle.footprint.proofs.runs.Tie as tie
@@ -21,19 +21,19 @@ enough c = rw (length-pairs (c .before .before .before .before .before .before .
 
 returns : tie.Need-returns
 unfolding runsFail
-returns c = refused (simp (odd-list (c .before .before .before .before .before .args .extents .now) (c .if1 .taken)))
+returns c = runs-refused (simp (odd-list (c .before .before .before .before .before .args .extents .now) (c .if1 .taken)))
 
 returns-2 : tie.Need-returns-2
 unfolding runsFail
-returns-2 c = refused (rw (length-pairs (c .before .before .before .before .before .before .args .extents .now)) (simp (even (c .before), lt-ltb _ _ (c .if2 .taken))))
+returns-2 c = runs-refused (rw (length-pairs (c .before .before .before .before .before .before .args .extents .now)) (simp (even (c .before), lt-ltb _ _ (c .if2 .taken))))
 
 returns-3 : tie.Need-returns-3
 unfolding runsFail
-returns-3 c = refused (rw (length-pairs (c .before .before .before .before .before .before .before .args .extents .now)) (simp (even (c .before .before), le-ltb _ _ (c .before .if2 .left), lt-ltb _ _ (c .if3 .taken))))
+returns-3 c = runs-refused (rw (length-pairs (c .before .before .before .before .before .before .before .args .extents .now)) (simp (even (c .before .before), le-ltb _ _ (c .before .if2 .left), lt-ltb _ _ (c .if3 .taken))))
 
 returns-4 : tie.Need-returns-4
 unfolding runsFail
-returns-4 c = refused (rw (length-pairs (c .before .before .before .before .before .before .before .before .args .extents .now)) (simp (even (c .before .before .before), le-ltb _ _ (c .before .before .if2 .left), le-ltb _ _ (c .before .if3 .left), lt-ltb _ _ (c .if4 .taken))))
+returns-4 c = runs-refused (rw (length-pairs (c .before .before .before .before .before .before .before .before .args .extents .now)) (simp (even (c .before .before .before), le-ltb _ _ (c .before .before .if2 .left), le-ltb _ _ (c .before .if3 .left), lt-ltb _ _ (c .if4 .taken))))
 
 join-requires : tie.Need-join-requires
 join-requires c κs = let e = length-pairs (c .before .before .before .before .before .before .before .before .before .before .before .args .extents .now) in (omega arith, omega arith, omega arith)
@@ -49,7 +49,7 @@ same-length-3 c = search needs
 
 returns-5 : tie.Need-returns-5
 unfolding runsFail
-returns-5 c = accepted (enough (c .before .before .before .before .before .before .before .before .before .before)) (c .before .before .before .before .before .before .join .ensures)
+returns-5 c = runs-accepted (enough (c .before .before .before .before .before .before .before .before .before .before)) (c .before .before .before .before .before .before .join .ensures)
 
 pub runs-spec : {M : Type 1} → statement M
 runs-spec =
