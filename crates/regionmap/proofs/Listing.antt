@@ -13,6 +13,8 @@ use Rattle.numbers.specs.Pairs.{pairs, flat}
 use Rattle.numbers.specs.Range.{range}
 use Rattle.regionmap.specs.Map.{runsTo, placementOf, rangesOf, runsFail, Written}
 use Rattle.regionmap.specs.declared.RegionMap.{RegionMap}
+use Rattle.numbers.specs.Refusals.{accepted}
+use Rattle.numbers.proofs.Answers.{one-passes, one-fails}
 use Rattle.numbers.proofs.Lists.{written-length}
 use Rattle.numbers.proofs.Pairs.{pair-in, pair-written, length-flat}
 use Rattle.regionmap.proofs.Lookup.{Enough}
@@ -88,8 +90,8 @@ module _ {m : RegionMap} {ss fs out₀ out : List ℕ} {start file i : ℕ} (g :
 -- what `runs` answers
 module _ (m : RegionMap) (ss fs out₀ : List ℕ) where
   pub list-refused : runsFail m ss fs out₀ ≡ true → Written m ss fs out₀ out₀ (countOf (Refused 1))
-  list-refused e = record { answer = simp e; slots = simp e }
+  list-refused e = record { answer = sym (one-fails 1 _ _ (omega arith) e); slots = simp e }
 
   pub list-written : runsFail m ss fs out₀ ≡ false → Enough m ss fs → (out : List ℕ) → out ≡ written (flat (rangesOf (placementOf m ss fs .runs))) out₀ → Written m ss fs out₀ out (countOf (Runs (m .count + 1)))
   list-written f e out w =
-      record { answer = simp f (rw (runs-count m ss fs (e .starts) (e .files))); slots = simp f w }
+      record { answer = ap accepted (sym (runs-count m ss fs (e .starts) (e .files))) ∙ sym (one-passes 1 _ _ f); slots = simp f w }

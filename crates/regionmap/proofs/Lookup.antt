@@ -9,7 +9,7 @@ use lib.ListN.{length, getD, take}
 use lib.Seq.{length-take-le, getD-take}
 use borrow.Author.Tests.{ltb-false, le-ltb}
 use Rattle.footprint.specs.Runs.{Run, blankRun}
-use Rattle.numbers.specs.Refusals.{first, refuse}
+use Rattle.numbers.specs.Refusals.{first, refuse, accepted, refused, answer}
 use Rattle.numbers.specs.Search.{Rising, Found}
 use Rattle.numbers.specs.Sums.{top, stop}
 use Rattle.regionmap.specs.Inner.{RunEnd}
@@ -132,20 +132,20 @@ module _ (m : RegionMap) (ss fs : List ℕ) (v : Valid m ss fs) where
 
 -- the answer, test by test
 module _ (m : Placement) (p n : ℕ) (ss fs : List ℕ) where
-  pub locate-few : tooFew (m .room) ss fs ≡ true → record { number = 1; byte = 0 } ≡ locateOf m p n ss fs
-  unfolding locateRefusal first refuse
+  pub locate-few : tooFew (m .room) ss fs ≡ true → refused 1 ≡ locateOf m p n ss fs
+  unfolding locateRefusal first refuse answer
   locate-few a = simp a
 
   module _ (a : tooFew (m .room) ss fs ≡ false) where
-    pub locate-past : ltb (m .len) (p + n) ≡ true → record { number = 23; byte = 0 } ≡ locateOf m p n ss fs
-    unfolding locateRefusal first refuse
+    pub locate-past : ltb (m .len) (p + n) ≡ true → refused 23 ≡ locateOf m p n ss fs
+    unfolding locateRefusal first refuse answer
     locate-past b = simp (a, b)
 
     module _ (b : ltb (m .len) (p + n) ≡ false) where
-      pub locate-across : ltb (runOf (m .runs) p .start + runOf (m .runs) p .len) (p + n) ≡ true → record { number = 24; byte = 0 } ≡ locateOf m p n ss fs
-      unfolding locateRefusal first refuse
+      pub locate-across : ltb (runOf (m .runs) p .start + runOf (m .runs) p .len) (p + n) ≡ true → refused 24 ≡ locateOf m p n ss fs
+      unfolding locateRefusal first refuse answer
       locate-across c = simp (a, b, c)
 
-      pub locate-at : ltb (runOf (m .runs) p .start + runOf (m .runs) p .len) (p + n) ≡ false → (q : ℕ) → byteAt m p ≡ q → record { number = 0; byte = q } ≡ locateOf m p n ss fs
-      unfolding locateRefusal first refuse
+      pub locate-at : ltb (runOf (m .runs) p .start + runOf (m .runs) p .len) (p + n) ≡ false → (q : ℕ) → byteAt m p ≡ q → accepted q ≡ locateOf m p n ss fs
+      unfolding locateRefusal first refuse answer
       locate-at c q e = simp (a, b, c, e)

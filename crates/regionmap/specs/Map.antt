@@ -6,11 +6,11 @@ use mathlib.Core.Logic.{_⊎_}
 use mathlib.Core.Path.{_≡_}
 use lib.Dec.{ltb, leb, eqb}
 use lib.ListN.{length, take, drop, set}
-use Rattle.footprint.specs.Runs.{Run, run, blankRun, runsOf, runByte, Count}
+use Rattle.footprint.specs.Runs.{Run, run, blankRun, runsOf, runByte}
 use Rattle.numbers.specs.Lists.{All, listAfter}
 use Rattle.numbers.specs.Pairs.{isOdd, pairs, flat}
 use Rattle.numbers.specs.Range.{Range, range, total}
-use Rattle.numbers.specs.Refusals.{refuse, first, eachExtent}
+use Rattle.numbers.specs.Refusals.{refuse, first, Answer, accepted, refused, answer, eachExtent}
 use Rattle.numbers.specs.Sums.{top}
 use Rattle.regionmap.specs.declared.Located.{Located}
 use Rattle.regionmap.specs.declared.Mapped.{Mapped}
@@ -70,18 +70,10 @@ pub record Valid (m : RegionMap) (ss fs : List ℕ) : Type 0 where
 
 -- ---- answers
 
--- Document 01's number, 0 where the call is accepted, and the placement handed back, none where it is refused.
-pub record Outcome : Type 0 where
-  pub number : ℕ
-  pub placement : List Placement
-
-abbrev pub outcomeOf : Mapped → List ℕ → List ℕ → Outcome
-outcomeOf (Map m) ss fs = record { number = 0; placement = placementOf m ss fs ∷ [] }
-outcomeOf (Refused n) ss fs = record { number = n; placement = [] }
-
--- "A refused call returns its number alone": the refusal n, or the placement m where n is 0.
-unfoldable pub refusedOr : ℕ → Placement → Outcome
-refusedOr n m = cond (eqb n 0) (record { number = 0; placement = m ∷ [] }) (record { number = n; placement = [] })
+-- The placement of the map handed back, or document 01's number.
+abbrev pub outcomeOf : Mapped → List ℕ → List ℕ → Answer Placement
+outcomeOf (Map m) ss fs = accepted (placementOf m ss fs)
+outcomeOf (Refused n) ss fs = refused n
 
 -- The map that is handed back, if one is, is valid.
 abbrev pub HandsValid : Mapped → List ℕ → List ℕ → Type 0
@@ -120,16 +112,16 @@ placed xs n = record { runs = withFirst (runsOf xs); capacity = total xs; len = 
 
 -- What `from_extents` promises: its answer, every slot of the two lists, and a valid map.
 pub record Made (xs : List ℕ) (len : ℕ) (ss₀ ss fs₀ fs : List ℕ) (r : Mapped) : Type 0 where
-  pub answer : outcomeOf r ss fs ≡ refusedOr (fromRefusal xs len ss₀ fs₀) (placed (pairs xs) len)
+  pub answer : outcomeOf r ss fs ≡ answer (fromRefusal xs len ss₀ fs₀) (placed (pairs xs) len)
   pub starts : ss ≡ listAfter (not (eqb (fromRefusal xs len ss₀ fs₀) 0)) (map (λ (q : Run). q .start) (drop 1 (runsOf (pairs xs)))) ss₀
   pub files : fs ≡ listAfter (not (eqb (fromRefusal xs len ss₀ fs₀) 0)) (map (λ (q : Run). q .file) (drop 1 (runsOf (pairs xs)))) fs₀
   pub valid : HandsValid r ss fs
 
 -- ---- with_room and publish_len
 
--- 1. room over the limit, or too few places for it
-unfoldable pub roomRefusal : ℕ → List ℕ → List ℕ → ℕ
-roomRefusal n ss fs = refuse 1 (ltb limit n || tooFew n ss fs)
+-- 1. room over the limit, or too few places for the room that the map has then
+unfoldable pub roomRefusal : Placement → ℕ → List ℕ → List ℕ → ℕ
+roomRefusal m n ss fs = refuse 1 (ltb limit n || tooFew (max (m .room) n) ss fs)
 
 -- Room for n runs after the first, or what there was where that is more.
 abbrev pub withRoom : Placement → ℕ → Placement
@@ -137,7 +129,7 @@ withRoom m n = record { runs = m .runs; capacity = m .capacity; len = m .len; ro
 
 -- What `with_room` promises of any record; it only reads the lists.
 pub record Roomed (m : RegionMap) (n : ℕ) (ss fs : List ℕ) (r : Mapped) : Type 0 where
-  pub answer : outcomeOf r ss fs ≡ refusedOr (roomRefusal n ss fs) (withRoom (placementOf m ss fs) n)
+  pub answer : outcomeOf r ss fs ≡ answer (roomRefusal (placementOf m ss fs) n ss fs) (withRoom (placementOf m ss fs) n)
   pub valid : Valid m ss fs → HandsValid r ss fs
 
 -- "`publish_len` never lowers."
@@ -146,7 +138,7 @@ published m n = record { runs = m .runs; capacity = m .capacity; len = max (m .l
 
 -- What `publish_len` promises of any record, with whatever lists hold its runs; 23 is "A .. length .. passes the .. capacity".
 pub record Published (m : RegionMap) (n : ℕ) (r : Mapped) : Type 0 where
-  pub answer : (ss fs : List ℕ) → outcomeOf r ss fs ≡ refusedOr (refuse 23 (ltb (m .capacity) n)) (published (placementOf m ss fs) n)
+  pub answer : (ss fs : List ℕ) → outcomeOf r ss fs ≡ answer (refuse 23 (ltb (m .capacity) n)) (published (placementOf m ss fs) n)
   pub valid : (ss fs : List ℕ) → Valid m ss fs → HandsValid r ss fs
 
 -- ---- extend
@@ -186,7 +178,7 @@ takesPlace m (Refused n) = false
 
 -- What `extend` promises. Of any record: no slot changes but the one that a new run takes, which gets its start and file offset.
 pub record Extended (m : RegionMap) (f n : ℕ) (ss₀ ss fs₀ fs : List ℕ) (r : Mapped) : Type 0 where
-  pub answer : Valid m ss₀ fs₀ → outcomeOf r ss fs ≡ refusedOr (extendRefusal (placementOf m ss₀ fs₀) f n ss₀ fs₀) (extended (placementOf m ss₀ fs₀) f n)
+  pub answer : Valid m ss₀ fs₀ → outcomeOf r ss fs ≡ answer (extendRefusal (placementOf m ss₀ fs₀) f n ss₀ fs₀) (extended (placementOf m ss₀ fs₀) f n)
   pub valid : Valid m ss₀ fs₀ → HandsValid r ss fs
   pub starts : ss ≡ cond (takesPlace m r) (set ss₀ (m .count) (m .capacity)) ss₀
   pub files : fs ≡ cond (takesPlace m r) (set fs₀ (m .count) f) fs₀
@@ -213,22 +205,14 @@ locateRefusal m p n ss fs =
     refuse 23 (ltb (m .len) (p + n)) ∷
     refuse 24 (ltb (runOf (m .runs) p .start + runOf (m .runs) p .len) (p + n)) ∷ [])
 
--- Document 01's number, 0 where the range is located, and its first byte, 0 where it is not.
-pub record Place : Type 0 where
-  pub number : ℕ
-  pub byte : ℕ
-
-abbrev pub placeOf : Located → Place
-placeOf (located.At b) = record { number = 0; byte = b }
-placeOf (located.Refused n) = record { number = n; byte = 0 }
+-- The byte of a range's first position, or document 01's number.
+abbrev pub placeOf : Located → Answer ℕ
+placeOf (located.At b) = accepted b
+placeOf (located.Refused n) = refused n
 
 -- What `locate` answers.
-abbrev pub locateOf : Placement → ℕ → ℕ → List ℕ → List ℕ → Place
-locateOf m p n ss fs =
-    record {
-      number = locateRefusal m p n ss fs;
-      byte = cond (eqb (locateRefusal m p n ss fs) 0) (byteAt m p) 0;
-    }
+abbrev pub locateOf : Placement → ℕ → ℕ → List ℕ → List ℕ → Answer ℕ
+locateOf m p n ss fs = answer (locateRefusal m p n ss fs) (byteAt m p)
 
 -- What `locate` promises of every map that a call handed back.
 pub record Answered (m : RegionMap) (p n : ℕ) (ss fs : List ℕ) (r : Located) : Type 0 where
@@ -245,10 +229,8 @@ unfoldable pub runsFail : RegionMap → List ℕ → List ℕ → List ℕ → B
 runsFail m ss fs out = tooFew (m .room) ss fs || ltb (m .room) (m .count) || ltb (length (pairs out)) (m .count + 1)
 
 -- What `runs` promises of any record: how many runs it wrote, and every slot of the list, which has their file offsets and lengths.
-pub record Written (m : RegionMap) (ss fs out₀ out : List ℕ) (c : Count) : Type 0 where
-  pub answer :
-      c ≡ cond (runsFail m ss fs out₀) (record { number = 1; runs = 0 })
-      (record { number = 0; runs = length (placementOf m ss fs .runs) })
+pub record Written (m : RegionMap) (ss fs out₀ out : List ℕ) (c : Answer ℕ) : Type 0 where
+  pub answer : c ≡ answer (refuse 1 (runsFail m ss fs out₀)) (length (placementOf m ss fs .runs))
   pub slots : out ≡ listAfter (runsFail m ss fs out₀) (flat (rangesOf (placementOf m ss fs .runs))) out₀
 
 -- ---- the extents of a map

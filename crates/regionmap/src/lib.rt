@@ -14,7 +14,7 @@ use numbers::sub_stop;
 use search::find;
 ghost use mathlib.Core.Path.{_≡_};
 ghost use mathlib.Core.Bool.{_||_};
-ghost use Prim.Native.Nat.{_+_, _-_, _≤_};
+ghost use Prim.Native.Nat.{_+_, _≤_, max};
 ghost use lib.Dec.{ltb, eqb};
 ghost use lib.ListN.{length};
 ghost use Rattle.footprint.specs.Runs.{countOf};
@@ -59,6 +59,15 @@ fn too_few(n: usize, starts: usize, files: usize) -> bool
         return true;
     }
     files < n
+}
+
+fn higher(a: usize, b: usize) -> usize
+    ensures { λ r. ⌜ r ≡ max a b ⌝ }
+{
+    if a < b {
+        return b;
+    }
+    a
 }
 
 // Whether a run of len bytes at the byte at ends at file.
@@ -110,13 +119,12 @@ impl RegionMap {
         if room > MOST {
             return Mapped::Refused(1);
         }
-        if too_few(room, starts.len(), files.len()) {
+        let most = higher(self.room, room);
+        if too_few(most, starts.len(), files.len()) {
             return Mapped::Refused(1);
         }
         let mut map = self;
-        if self.room < room {
-            map.room = room;
-        }
+        map.room = most;
         Mapped::Map(map)
     }
 

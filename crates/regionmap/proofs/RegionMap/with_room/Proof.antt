@@ -13,20 +13,19 @@ returns : tie.Need-returns
 unfolding roomRefusal tooFew refuse
 returns c = let a = c .before .before .before .args in room-refused (a .self) (a .room) (a .starts .now) (a .files .now) (simp (lt-ltb _ _ (c .if1 .taken)))
 
+higher-requires : tie.Need-higher-requires
+higher-requires c κs = search needs
+
 too-few-requires : tie.Need-too-few-requires
 too-few-requires c κs = search needs
 
 returns-2 : tie.Need-returns-2
 unfolding roomRefusal tooFew refuse
-returns-2 c = let a = c .before .before .before .before .before .args in room-refused (a .self) (a .room) (a .starts .now) (a .files .now) (simp (le-ltb _ _ (c .before .before .if1 .left), sym (c .before .too-few .ensures) ∙ c .if2 .taken))
+returns-2 c = let a = c .before .before .before .before .before .before .args in room-refused (a .self) (a .room) (a .starts .now) (a .files .now) (simp (le-ltb _ _ (c .before .before .before .if1 .left), sym (c .before .before .higher .ensures), sym (c .before .too-few .ensures) ∙ c .if2 .taken))
 
 returns-3 : tie.Need-returns-3
 unfolding roomRefusal tooFew refuse
-returns-3 c = let a = c .before .before .before .before .before .before .before .args in room-given (a .self) (a .room) (a .starts .now) (a .files .now) (simp (le-ltb _ _ (c .before .before .before .before .if1 .left), sym (c .before .before .before .too-few .ensures) ∙ c .before .before .if2 .left)) (c .before .before .before .before .if1 .left) (a .room) (omega (arith, c .if3 .taken))
-
-returns-4 : tie.Need-returns-4
-unfolding roomRefusal tooFew refuse
-returns-4 c = let a = c .before .before .before .before .before .before .before .args in room-given (a .self) (a .room) (a .starts .now) (a .files .now) (simp (le-ltb _ _ (c .before .before .before .before .if1 .left), sym (c .before .before .before .too-few .ensures) ∙ c .before .before .if2 .left)) (c .before .before .before .before .if1 .left) (a .self .room) (omega (arith, c .if3 .left))
+returns-3 c = let a = c .before .before .before .before .before .before .args in room-given (a .self) (a .room) (a .starts .now) (a .files .now) (simp (le-ltb _ _ (c .before .before .before .if1 .left), sym (c .before .before .higher .ensures), sym (c .before .too-few .ensures) ∙ c .if2 .left)) (c .before .before .before .if1 .left) _ (c .before .before .higher .ensures)
 
 pub with-room-spec : {M : Type 1} → statement M
-with-room-spec = tie.close (tie.spec returns too-few-requires returns-2 returns-3 returns-4)
+with-room-spec = tie.close (tie.spec returns higher-requires too-few-requires returns-2 returns-3)
