@@ -1,9 +1,10 @@
 -- What it means that a region is accepted.
-use Prim.Native.Nat.{ℕ, _+_, _*_, _≤_, _<_}
+use Prim.Native.Nat.{ℕ, _+_, _*_, _≤_, _<_, min, max}
 use mathlib.Core.List.{List}
 use mathlib.Core.Path.{_≡_, refl, _∙_}
 use native.Mathlib.Omega.{arith}
 use lib.ListN.{length, getD}
+use lib.Pow.{pow-lt}
 use Rattle.footprint.specs.Footprint.{maxExtents, blockOf, committed, ranges, footprintOf, refusalOf}
 use Rattle.footprint.specs.declared.Entry.{Entry}
 use Rattle.footprint.specs.declared.Header.{Header}
@@ -59,3 +60,11 @@ most-at-12 = refl
 pub most-at-16 : maxExtents 16 ≡ 4084
 unfolding maxExtents
 most-at-16 = refl
+
+-- a region of the plan, of "up to 60 extents", is within it for every L
+pub sixty-within : (l : ℕ) → 60 ≤ maxExtents l
+unfolding maxExtents
+sixty-within l =
+    let k : 11 < max 12 (min l 16) = omega arith in
+    let h = pow-lt k in
+    omega (arith, h)

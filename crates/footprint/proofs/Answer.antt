@@ -49,7 +49,7 @@ module _ (lim : Limits) (id : ℕ) (e : Entry) (h : Header) (xs : List ℕ) (pla
       (refuse-low 13 1 _ (omega arith), (refuse-low 13 2 _ (omega arith), (refuse-low 13 4 _ (omega arith), (refuse-low 13 5 _ (omega arith), (refuse-low 13 6 _ (omega arith), (refuse-low 13 7 _ (omega arith), (refuse-low 13 8 _ (omega arith), (refuse-low 13 9 _ (omega arith), (refuse-low 13 10 _ (omega arith), (each-low (outside lim e) 0 (committed e xs), (refuse-low 13 12 _ (omega arith), tt)))))))))))
 
   -- of an accepted region no test failed
-  none-failed : refusalOf lim id e h xs places ≡ 0 → (first before ≡ 0) × (first (overlapTests (ranges lim e xs)) ≡ 0)
+  pub none-failed : refusalOf lim id e h xs places ≡ 0 → (first before ≡ 0) × (first (overlapTests (ranges lim e xs)) ≡ 0)
   unfolding refusalOf
   none-failed z = first-parts before (overlapTests (ranges lim e xs)) z
 

@@ -5,4 +5,6 @@ pub mod Laying
 pub mod Passed
 pub mod Answer
 pub mod Positions
+pub mod Bytes
+pub mod Regular
 pub mod Accepted

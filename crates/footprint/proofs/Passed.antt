@@ -29,6 +29,7 @@ pub record Lists (lim : Limits) (e : Entry) (h : Header) (xs : List ℕ) (places
   pub even : isOdd xs ≡ false
   pub listed : length (pairs xs) ≡ h .«extent_count»
   pub few : e .«extent_count» ≤ maxExtents (lim .«log2_block»)
+  pub header-few : h .«extent_count» ≤ maxExtents (lim .«log2_block»)
   pub room : 2 * (e .«extent_count» + 2) ≤ places
 
 pub lists-pass : (lim : Limits) (e : Entry) (h : Header) (xs : List ℕ) (places : ℕ) → listsFail lim e h xs places ≡ false → Lists lim e h xs places
@@ -38,7 +39,7 @@ lists-pass lim e h xs places p =
     let b = or-false _ _ (a .0) in
     let c = or-false _ _ (b .0) in
     let d = or-false _ _ (c .0) in
-    record { even = d .0; listed = eqb-true _ _ (not-false _ (d .1)); few = ltb-false _ _ (c .1); room = ltb-false _ _ (a .1) }
+    record { even = d .0; listed = eqb-true _ _ (not-false _ (d .1)); few = ltb-false _ _ (c .1); header-few = ltb-false _ _ (b .1); room = ltb-false _ _ (a .1) }
 
 -- 2: the block logs are allowed
 pub record Logs (lim : Limits) (h : Header) : Type 0 where
@@ -76,6 +77,7 @@ block-pass block e at p =
 -- 4: the added entry checks
 pub record Entries (lim : Limits) (e : Entry) (xs : List ℕ) : Type 0 where
   pub table : lim .«table_end» ≤ e .«span_start»
+  pub order : e .«span_start» ≤ e .«span_end»
   pub file : e .«span_end» ≤ lim .«file_len»
   pub a : Block (blockOf lim) e (e .«header_a»)
   pub b : Block (blockOf lim) e (e .«header_b»)
@@ -94,6 +96,7 @@ entry-pass lim e xs p =
     let t = or-false _ _ (u .0) in
     record {
       table = ltb-false _ _ (t .0);
+      order = ltb-false _ _ (t .1);
       file = ltb-false _ _ (u .1);
       a = block-pass (blockOf lim) e (e .«header_a») (a .1);
       b = block-pass (blockOf lim) e (e .«header_b») (b .1);

@@ -18,11 +18,11 @@ use Rattle.numbers.proofs.Cases.{cases, by-lt, clash}
 -- ---- joining moves no byte, and keeps the lengths together
 
 -- one extent after another
-byte-here : (x : Range) (xs : List Range) (p : ℕ) → p < x .len → byteOf (x ∷ xs) p ≡ x .offset + p
+pub byte-here : (x : Range) (xs : List Range) (p : ℕ) → p < x .len → byteOf (x ∷ xs) p ≡ x .offset + p
 unfolding byteOf
 byte-here x xs p h = simp (lt-ltb _ _ h)
 
-byte-later : (x : Range) (xs : List Range) (p : ℕ) → x .len ≤ p → byteOf (x ∷ xs) p ≡ byteOf xs (p - x .len)
+pub byte-later : (x : Range) (xs : List Range) (p : ℕ) → x .len ≤ p → byteOf (x ∷ xs) p ≡ byteOf xs (p - x .len)
 unfolding byteOf
 byte-later x xs p h = simp (le-ltb _ _ h)
 

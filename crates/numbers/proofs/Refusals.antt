@@ -2,12 +2,13 @@
 use Prim.Native.Nat.{ℕ, suc, _+_, _≤_, _<_}
 use mathlib.Core.Bool.{Bool, true, false}
 use mathlib.Core.List.{List, [], _∷_, _++_}
+use mathlib.Core.Logic.{_⊎_, inl, inr}
 use mathlib.Core.Path.{_≡_, refl, sym, _∙_}
 use native.Mathlib.Omega.{arith}
 use lib.Dec.{ltb}
 use lib.ListN.{length, getD, drop, drop-of-length-le}
 use lib.Seq.{drop-cons}
-use borrow.Author.Tests.{eq-eqb, ne-eqb, ltb-false}
+use borrow.Author.Tests.{eq-eqb, ne-eqb, ltb-false, le-ltb}
 use Rattle.numbers.specs.Lists.{All}
 use Rattle.numbers.specs.Range.{Range, blank, total}
 use Rattle.numbers.specs.Refusals.{first, refuse, eachExtent}
@@ -41,6 +42,15 @@ pub first-parts : (ns ms : List ℕ) → first (ns ++ ms) ≡ 0 → (first ns �
 first-parts ns ms z =
     by-eq (first ns) 0 (λ e. (e, sym (first-go ns ms e) ∙ z)) (λ d. absurd (d (sym (first-stop ns ms d) ∙ z)))
 
+pub none-first : (ns : List ℕ) → All (λ (n : ℕ). n ≡ 0) ns → first ns ≡ 0
+unfolding first
+none-first [] a = refl
+none-first (n ∷ ns) a = simp (a .0) (none-first ns (a .1))
+
+pub pass-none : (n : ℕ) (b : Bool) → b ≡ false → refuse n b ≡ 0
+unfolding refuse
+pass-none n b e = simp e
+
 pub refuse-none : (n : ℕ) (b : Bool) → 0 < n → refuse n b ≡ 0 → b ≡ false
 unfolding refuse
 refuse-none n true p z = absurd (omega arith)
@@ -58,7 +68,33 @@ unfolding refuse
 refuse-low m n true p = p
 refuse-low m n false p = omega arith
 
+-- where every test's number reaches a bound, so does the one that is given, if one is
+abbrev pub NoneBelow : ℕ → ℕ → Type 0
+NoneBelow m n = (n ≡ 0) ⊎ (m ≤ n)
+
+pub first-high : (m : ℕ) (ns : List ℕ) → All (NoneBelow m) ns → NoneBelow m (first ns)
+unfolding first
+first-high m [] a = inl refl
+first-high m (n ∷ ns) a =
+    by-eq n 0 (λ e. simp (eq-eqb _ _ e) (first-high m ns (a .1))) (λ d. simp (ne-eqb _ _ d) (a .0))
+
+pub refuse-high : (m n : ℕ) (b : Bool) → m ≤ n → NoneBelow m (refuse n b)
+unfolding refuse
+refuse-high m n true p = inr p
+refuse-high m n false p = inl refl
+
 module _ (outside : Range → Bool) where
+  pub each-high : (s : ℕ) (xs : List Range) → NoneBelow 11 (eachExtent outside s xs)
+  unfolding eachExtent
+  each-high s [] = inl refl
+  each-high s (x ∷ xs) = first-high 11 _ (refuse-high 11 11 _ (omega arith), (refuse-high 11 12 _ (omega arith), (each-high (s + x .len) xs, tt)))
+
+  -- no extent is outside, and no sum passes
+  pub each-none : (s : ℕ) (xs : List Range) → All (λ (x : Range). outside x ≡ false) xs → s + total xs ≤ top → eachExtent outside s xs ≡ 0
+  unfolding eachExtent first refuse sum
+  each-none s [] a h = refl
+  each-none s (x ∷ xs) a h = simp (a .0, le-ltb top (s + x .len) (omega arith)) (first-one _ ∙ each-none (s + x .len) xs (a .1) (omega arith))
+
   pub each-low : (s : ℕ) (xs : List Range) → eachExtent outside s xs < 13
   unfolding eachExtent
   each-low s [] = omega arith
