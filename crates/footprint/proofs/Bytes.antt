@@ -8,13 +8,14 @@ use native.Mathlib.Nat.{le-of-suc-le-suc, not-suc-le-zero}
 use native.Mathlib.Omega.{arith}
 use lib.Dec.{eqb}
 use lib.ListN.{length, getD}
+use borrow.Author.Tests.{eq-eqb, ne-eqb}
 use Rattle.footprint.specs.Runs.{Run, blankRun, notEmpty, joins, joinedTo, joined, runsFrom, runsOf, byteOf}
 use Rattle.numbers.specs.Lists.{All, Any}
 use Rattle.numbers.specs.Range.{Range, range, blank, Has, Meet, Disjoint, total}
 use Rattle.numbers.specs.Sums.{top, sum}
 use Rattle.footprint.proofs.Joining.{joins-true, true-joins}
 use Rattle.footprint.proofs.Positions.{byte-here, byte-later, runs-apart, total-joined, total-notEmpty}
-use Rattle.numbers.proofs.Cases.{cases, by-lt, clash}
+use Rattle.numbers.proofs.Cases.{cases, by-lt, by-eq, clash}
 use Rattle.numbers.proofs.Disjoint.{MeetsNone}
 use Rattle.numbers.proofs.Lists.{all-at, all-imp, all-none}
 use Rattle.numbers.proofs.Ranges.{end-exact}
@@ -125,6 +126,33 @@ pub from-length : (b : ℕ) (ys : List Range) → length (runsFrom b ys) ≡ len
 unfolding runsFrom
 from-length b [] = refl
 from-length b (y ∷ ys) = ap suc (from-length (b + y .len) ys)
+
+-- no run is empty
+some-notEmpty : (xs : List Range) → All (λ (x : Range). 0 < x .len) (notEmpty xs)
+unfolding notEmpty
+some-notEmpty [] = tt
+some-notEmpty (x ∷ xs) =
+    by-eq (x .len) 0 (λ e. simp (eq-eqb _ _ e) (some-notEmpty xs)) (λ d. simp (ne-eqb _ _ d) (omega arith, some-notEmpty xs))
+
+some-joinedTo : (r : Range) (xs : List Range) → 0 < r .len → All (λ (x : Range). 0 < x .len) xs → All (λ (x : Range). 0 < x .len) (joinedTo r xs)
+unfolding joinedTo
+some-joinedTo r [] h a = (h, tt)
+some-joinedTo r (x ∷ xs) h a =
+    cases (joins r x) (λ e. simp e (some-joinedTo (range (r .offset) (r .len + x .len)) xs (omega arith) (a .1)))
+    (λ e. simp e (h, some-joinedTo x xs (a .0) (a .1)))
+
+some-joined : (xs : List Range) → All (λ (x : Range). 0 < x .len) xs → All (λ (x : Range). 0 < x .len) (joined xs)
+unfolding joined
+some-joined [] a = tt
+some-joined (x ∷ xs) a = some-joinedTo x xs (a .0) (a .1)
+
+pub runs-some : (xs : List Range) (i : ℕ) → i < length (runsOf xs) → 0 < getD (runsOf xs) i blankRun .len
+runs-some xs i h =
+    let ys = joined (notEmpty xs) in
+    let k : i < length ys = subst (λ (n : ℕ). i < n) (from-length 0 ys) h in
+    let m = from-at 0 ys i k in
+    let s = all-at (λ (x : Range). 0 < x .len) ys i blank (some-joined (notEmpty xs) (some-notEmpty xs)) k in
+    omega (arith, m .1, s)
 
 pub runs-no-touch : (xs : List Range) → Ends xs → total xs ≤ top → (i : ℕ) → suc i < length (runsOf xs) → getD (runsOf xs) i blankRun .file + getD (runsOf xs) i blankRun .len ≡ getD (runsOf xs) (suc i) blankRun .file → ⊥
 runs-no-touch xs a w i h e =

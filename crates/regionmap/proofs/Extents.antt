@@ -13,6 +13,7 @@ use Rattle.numbers.specs.Range.{Range, range, total}
 use Rattle.numbers.specs.Refusals.{eachExtent}
 use Rattle.numbers.specs.Sums.{top, stop, sum}
 use Rattle.regionmap.specs.Map.{EndToEnd, fileEnd, longer, extendedRuns, passesTop}
+use Rattle.footprint.proofs.Bytes.{from-length}
 use Rattle.footprint.proofs.Joining.{joins-true, true-joins}
 use Rattle.footprint.proofs.Positions.{total-joined, total-notEmpty}
 use Rattle.numbers.proofs.Cases.{cases, by-eq}
@@ -115,43 +116,9 @@ runs-laid xs h =
     let t = total-joined (notEmpty xs) ∙ total-notEmpty xs in
     from-laid 0 (joined (notEmpty xs)) (total xs) (omega arith) h
 
--- ---- no run passes the last byte where no extent does
-
-abbrev Inside : Range → Type 0
-Inside x = x .offset + x .len ≤ top
-
-inside-notEmpty : (xs : List Range) → All Inside xs → All Inside (notEmpty xs)
-unfolding notEmpty
-inside-notEmpty [] a = tt
-inside-notEmpty (x ∷ xs) a = cases (eqb (x .len) 0) (λ e. simp e (inside-notEmpty xs (a .1))) (λ e. simp e (a .0, inside-notEmpty xs (a .1)))
-
-inside-joinedTo : (r : Range) (xs : List Range) → Inside r → All Inside xs → All Inside (joinedTo r xs)
-unfolding joinedTo
-inside-joinedTo r [] h a = (h, tt)
-inside-joinedTo r (x ∷ xs) h a =
-    cases (joins r x)
-    (λ e. let j = joins-true r x e .ends in simp e (inside-joinedTo (range (r .offset) (r .len + x .len)) xs (omega (arith, a .0)) (a .1)))
-    (λ e. simp e (h, inside-joinedTo x xs (a .0) (a .1)))
-
-inside-joined : (xs : List Range) → All Inside xs → All Inside (joined xs)
-unfolding joined
-inside-joined [] a = tt
-inside-joined (x ∷ xs) a = inside-joinedTo x xs (a .0) (a .1)
-
-inside-from : (b : ℕ) (ys : List Range) → All Inside ys → All (λ (r : Run). r .file + r .len ≤ top) (runsFrom b ys)
-unfolding runsFrom
-inside-from b [] a = tt
-inside-from b (y ∷ ys) a = (a .0, inside-from (b + y .len) ys (a .1))
-
-pub runs-inside : (xs : List Range) → All (λ (x : Range). x .offset + x .len ≤ top) xs → All (λ (r : Run). r .file + r .len ≤ top) (runsOf xs)
-runs-inside xs a = inside-from 0 (joined (notEmpty xs)) (inside-joined (notEmpty xs) (inside-notEmpty xs a))
+-- ---- how many runs
 
 -- there are no more runs than extents
-few-from : (b : ℕ) (ys : List Range) → length (runsFrom b ys) ≡ length ys
-unfolding runsFrom
-few-from b [] = refl
-few-from b (y ∷ ys) = ap suc (few-from (b + y .len) ys)
-
 few-to : (r : Range) (xs : List Range) → length (joinedTo r xs) ≤ suc (length xs)
 unfolding joinedTo
 few-to r [] = omega arith
@@ -173,7 +140,7 @@ few-kept (x ∷ xs) =
 
 pub runs-few : (xs : List Range) → length (runsOf xs) ≤ length xs
 runs-few xs =
-    let a = few-from 0 (joined (notEmpty xs)) in
+    let a = from-length 0 (joined (notEmpty xs)) in
     let b = few-joined (notEmpty xs) in
     let c = few-kept xs in
     omega arith

@@ -8,3 +8,4 @@ pub mod Growing
 pub mod Building
 pub mod Listing
 pub mod Making
+pub mod ByExtents

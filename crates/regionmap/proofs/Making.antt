@@ -17,7 +17,8 @@ use Rattle.regionmap.specs.Inner.{Laid}
 use Rattle.regionmap.specs.Map.{runsTo, placementOf, EndToEnd, Sound, limit, extentsFail, passesTop, fromRefusal, withFirst, placed, Made}
 use Rattle.regionmap.specs.declared.Mapped.the-variants.{Map, Refused}
 use Rattle.regionmap.specs.declared.RegionMap.{RegionMap}
-use Rattle.regionmap.proofs.Extents.{each-ends, each-whole, runs-laid, runs-inside, runs-few}
+use Rattle.footprint.proofs.Bytes.{runs-inside}
+use Rattle.regionmap.proofs.Extents.{each-ends, each-whole, runs-laid, runs-few}
 use Rattle.regionmap.proofs.Means.{means-runs}
 use Rattle.regionmap.proofs.Records.{refuses, accepts}
 
