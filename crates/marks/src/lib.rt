@@ -1,1 +1,1 @@
-// Nothing runs here: the marks of document 01 are in proofs/Marks.
+// Nothing runs here: the marks of document 01 are in specs/Marks.
