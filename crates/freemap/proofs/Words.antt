@@ -3,28 +3,29 @@ use Prim.Native.Nat.{ℕ, zero, suc, _+_, _-_, _≤_, _<_, max}
 use mathlib.Core.Bool.{Bool, true, false, not}
 use mathlib.Core.List.{List, [], _∷_}
 use mathlib.Core.Logic.{_⊎_, inl, inr, ⊎-elim}
-use mathlib.Core.Option.{none, some}
-use mathlib.Core.Path.{_≡_, refl, ap, _∙_}
+use mathlib.Core.Path.{_≡_, refl, ap, sym, _∙_}
 use native.Mathlib.Omega.{arith}
 use lib.ListN.{length, getD}
 use borrow.Author.Tests.{eq-eqb, ne-eqb, not-true, le-ltb}
 use Rattle.freemap.specs.Bytes.{counted, freeOf}
-use Rattle.freemap.specs.Fit.{firstFit, found, fitRefusal, fitOf}
-use Rattle.freemap.specs.Gaps.{Covered, covered, free, maximal, gapsOf, tailOf, Answer, answerOf, freeMapOf, complementFails, Complemented, gapsIn, tooFew}
+use Rattle.freemap.specs.Fit.{firstFit, fitRefusal, fitOf}
+use Rattle.freemap.specs.Gaps.{Covered, covered, free, maximal, gapsOf, tailOf, answerOf, freeMapOf, complementFails, Complemented, gapsIn, tooFew}
 use Rattle.freemap.specs.declared.Complement.the-variants.{Map}
 use Rattle.freemap.specs.declared.FreeMap.{FreeMap}
 use Rattle.numbers.specs.Lists.{All, Any, written}
 use Rattle.numbers.specs.Pairs.{pairs, flat}
 use Rattle.numbers.specs.Powers.{isPowerOfTwo}
 use Rattle.numbers.specs.Range.{Range, blank, endOf, Has, has, Meet, total}
-use Rattle.numbers.specs.Refusals.{first, refuse}
+use Rattle.numbers.specs.Refusals.{accepted, answer, first, refuse}
 use Rattle.numbers.specs.Sums.{top, stop}
 use Rattle.freemap.proofs.Maximal.{Apart, max-apart, max-has, max-of, max-total, max-ends}
 use Rattle.freemap.proofs.Ordered.{Spans, Ends, span-in, apart-only}
+use Rattle.numbers.proofs.Answers.{accepted-is}
 use Rattle.numbers.proofs.Cases.{cases, by-eq, by-lt, clash, never}
 use Rattle.numbers.proofs.Lists.{all-imp, all-of, any-true, of-any, any-of, any-imp}
 use Rattle.numbers.proofs.Pairs.{written-front, written-places}
 use Rattle.numbers.proofs.Ranges.{has-true, true-has}
+use Rattle.numbers.proofs.Refusals.{refuse-none}
 
 -- ---- which bytes are free
 
@@ -159,12 +160,9 @@ pub record ReadsAs (te len : ℕ) (rs : List Range) (m : FreeMap) (gs : List ℕ
 pub gaps-read : (te len : ℕ) (rs₀ rs gs₀ gs : List ℕ) (m : FreeMap) → Complemented te len rs₀ rs gs₀ gs (Map m) → ReadsAs te len (pairs rs₀) m gs
 unfolding tooFew
 gaps-read te len rs₀ rs gs₀ gs m c =
-    cases (complementFails rs₀ gs₀)
-    (λ e. let a : answerOf (Map m) ≡ record { number = 1; map = none } = simp e at (c .answer) in let z = ap (λ (x : Answer). x .number) a in absurd (omega arith))
-    (λ e.
-    let a : answerOf (Map m) ≡ record { number = 0; map = some (freeMapOf te len (pairs rs₀)) } = simp e at (c .answer) in
-    let o : some m ≡ some (freeMapOf te len (pairs rs₀)) = ap (λ (x : Answer). x .map) a in
-    let q : m ≡ freeMapOf te len (pairs rs₀) = cc in
+    let a = accepted-is _ _ m (sym (c .answer)) in
+    let e = refuse-none 1 (complementFails rs₀ gs₀) (omega arith) (a .0) in
+    let q : m ≡ freeMapOf te len (pairs rs₀) = sym (a .1) in
     let n : m .count ≡ length (gapsOf te len (pairs rs₀)) = ap (λ (x : FreeMap). x .count) q in
     let s : gs ≡ written (flat (gapsOf te len (pairs rs₀))) gs₀ = simp e at (c .slots) in
     record {
@@ -173,14 +171,14 @@ gaps-read te len rs₀ rs gs₀ gs m c =
       enough =
           let h : m .count ≤ length (pairs gs) = rw (s, n) (written-places (gapsOf te len (pairs rs₀)) gs₀) in
           le-ltb _ _ h;
-    })
+    }
 
 -- so `first_fit` and `free_bytes` answer by these gaps
 module _ {te len : ℕ} {rs : List Range} {m : FreeMap} {gs : List ℕ} (g : ReadsAs te len rs m gs) where
-  pub read-fit : (n align skew : ℕ) → isPowerOfTwo align ≡ true → fitOf m gs n align skew ≡ found (firstFit n align skew (gapsOf te len rs))
-  unfolding fitRefusal first refuse
-  read-fit n align skew p = simp (g .enough, p) (ap (λ (l : List Range). found (firstFit n align skew l)) (g .gaps))
+  pub read-fit : (n align skew : ℕ) → isPowerOfTwo align ≡ true → fitOf m gs n align skew ≡ accepted (firstFit n align skew (gapsOf te len rs))
+  unfolding answer fitRefusal first refuse
+  read-fit n align skew p = simp (g .enough, p) (ap (λ (l : List Range). accepted (firstFit n align skew l)) (g .gaps))
 
-  pub read-bytes : len ≤ top → freeOf m gs ≡ record { number = 0; bytes = total (gapsOf te len rs) }
-  read-bytes h =
-      simp (g .enough) (λ i. record { number = 0; bytes = (ap (λ (l : List Range). stop (total l)) (g .gaps) ∙ free-whole te len rs h) i })
+  pub read-bytes : len ≤ top → freeOf m gs ≡ accepted (total (gapsOf te len rs))
+  unfolding answer refuse
+  read-bytes h = simp (g .enough) (ap accepted (ap (λ (l : List Range). stop (total l)) (g .gaps) ∙ free-whole te len rs h))
