@@ -175,18 +175,21 @@ module _ (tag : ℕ) (rule : TagSpace → TagSpace) (keeps : KeepsTag rule) (t :
       ap (λ (rs : List TagSpace). record { rows = rs; total = t .total })
       (ap (λ (r : TagSpace). put (next r) (put x (t .rows))) own-row ∙ put-put x (next x) (sym (k x)) (t .rows))
 
+  -- an unknown tag makes one row, a known one none
+  pub rows-made : (HasRow tag (t .rows) → ⊥) → length (onRow tag rule t .rows) ≡ length (t .rows) + 1
+  unfolding onRow
+  rows-made n = length-made (rule (rowOf tag (t .rows))) (t .rows) (λ a. n (subst (λ (i : ℕ). HasRow i (t .rows)) rule-tag a))
+
+  pub rows-kept : InTagOrder (t .rows) → HasRow tag (t .rows) → length (onRow tag rule t .rows) ≡ length (t .rows)
+  unfolding onRow
+  rows-kept o h = length-kept (rule (rowOf tag (t .rows))) (t .rows) o (subst (λ (i : ℕ). HasRow i (t .rows)) (sym rule-tag) h)
+
   -- 19 is given exactly where the tag has no row and 96 others have
   pub refused-full : (HasRow tag (t .rows) → ⊥) → 96 ≤ length (t .rows) → handed t (onRow tag rule t) ≡ record { refusal = 19; accounts = accountsOf t }
-  unfolding onRow
-  refused-full n h =
-      let m = length-made (rule (rowOf tag (t .rows))) (t .rows) (λ a. n (subst (λ (i : ℕ). HasRow i (t .rows)) rule-tag a)) in
-      handed-full t (onRow tag rule t) (omega (arith, m, h))
+  refused-full n h = let m = rows-made n in handed-full t (onRow tag rule t) (omega (arith, m, h))
 
   pub kept-known : InTagOrder (t .rows) → length (t .rows) ≤ 96 → HasRow tag (t .rows) → handed t (onRow tag rule t) ≡ record { refusal = 0; accounts = accountsOf (onRow tag rule t) }
-  unfolding onRow
-  kept-known o l h =
-      let m = length-kept (rule (rowOf tag (t .rows))) (t .rows) o (subst (λ (i : ℕ). HasRow i (t .rows)) (sym rule-tag) h) in
-      handed-fit t (onRow tag rule t) (omega (arith, m, l))
+  kept-known o l h = let m = rows-kept o h in handed-fit t (onRow tag rule t) (omega (arith, m, l))
 
   pub kept-room : length (t .rows) < 96 → handed t (onRow tag rule t) ≡ record { refusal = 0; accounts = accountsOf (onRow tag rule t) }
   unfolding onRow
@@ -202,7 +205,7 @@ module _ (r : TagSpace) where
       let f : stop (stop (r .physical + p) + q) ≡ stop (r .physical + (p + q)) = omega arith in
       rw (e, f)
 
-  -- "where no sum stopped": what was added is taken away again
+  -- where no sum stopped, what was added is taken away again
   pub add-remove : (logical physical : ℕ) → r .logical + logical ≤ top → r .physical + physical ≤ top → removeUsage logical physical (addUsage logical physical r) ≡ r
   add-remove l p h k = let e : stop (r .logical + l) - l ≡ r .logical = omega arith in let f : stop (r .physical + p) - p ≡ r .physical = omega arith in rw (e, f)
 
@@ -221,7 +224,7 @@ module _ (tag : ℕ) (t : Table) where
   on-row-same o h = ap (λ (rs : List TagSpace). record { rows = rs; total = t .total }) (put-same tag (t .rows) o h)
 
   module _ (logical physical : ℕ) (l : rowOf tag (t .rows) .logical + logical ≤ top) (p : rowOf tag (t .rows) .physical + physical ≤ top) where
-    -- "add then remove of the same amounts": all is as if the tag had only been asked for
+    -- after the same amounts were added and removed, all is as if the tag had only been asked for
     pub add-remove-table : onRow tag (removeUsage logical physical) (onRow tag (addUsage logical physical) t) ≡ onRow tag same t
     add-remove-table =
         on-row-twice tag (addUsage logical physical) (λ r. refl) t (removeUsage logical physical) (λ r. refl)

@@ -2,6 +2,7 @@ pub mod Maximal
 pub mod Ordered
 pub mod Words
 pub mod Places
+pub mod Held
 pub mod Sweeping
 mod Fitting
 mod Counting

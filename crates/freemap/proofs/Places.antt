@@ -4,13 +4,14 @@ use mathlib.Core.Bool.{true, false, not}
 use mathlib.Core.List.{List, [], _∷_}
 use mathlib.Core.Logic.{inl, inr, ⊎-elim}
 use mathlib.Core.Option.{Option, none, some}
-use mathlib.Core.Path.{_≡_, refl, sym}
+use mathlib.Core.Path.{_≡_, refl, ap, sym, _∙_}
+use native.Mathlib.Nat.{le-antisymm}
 use native.Mathlib.Omega.{arith}
 use borrow.Author.Tests.{leb-true}
 use Rattle.freemap.specs.Fit.{placeIn, skipped, allows, firstFit}
 use Rattle.freemap.specs.Gaps.{Covered, gapsOf}
 use Rattle.numbers.specs.Lists.{All, Any}
-use Rattle.numbers.specs.Range.{Range, endOf, Has}
+use Rattle.numbers.specs.Range.{Range, range, blank, endOf, Has, Meet}
 use Rattle.numbers.specs.Sums.{top}
 use Rattle.align.proofs.Least.{up-least}
 use Rattle.freemap.proofs.Fitting.{has-room, none-some}
@@ -18,8 +19,9 @@ use Rattle.freemap.proofs.Maximal.{Apart}
 use Rattle.freemap.proofs.Ordered.{Spans, apart-from}
 use Rattle.freemap.proofs.Words.{gap-free, gaps-apart, gaps-inside, span-in-gap}
 use Rattle.numbers.proofs.Cases.{cases, clash, and-true}
-use Rattle.numbers.proofs.Lists.{all-imp, any-imp}
-use Rattle.numbers.proofs.Ranges.{end-le}
+use Rattle.numbers.proofs.Disjoint.{MeetsNone}
+use Rattle.numbers.proofs.Lists.{all-imp, all-of, all-at, any-imp, any-of, any-at}
+use Rattle.numbers.proofs.Ranges.{end-le, end-exact}
 
 -- p + skew is a multiple of align.
 pub record Multiple (align skew p : ℕ) : Type 0 where
@@ -162,18 +164,71 @@ module _ (te len : ℕ) (rs : List Range) (small : len ≤ top) (n align skew : 
     pub fit-free : 0 < n → (a : ℕ) → firstFit n align skew gaps ≡ some a → FreeSpan te len rs n align skew a
     fit-free z a e = fits-free z a (fit-found n align skew pos gaps a e)
 
+    -- so none where there is no free span
+    pub no-span : 0 < n → ((p : ℕ) → FreeSpan te len rs n align skew p → ⊥) → firstFit n align skew gaps ≡ none
+    no-span z f = by-answer (firstFit n align skew gaps) (λ a e. absurd (f a (fit-free z a e))) (λ e. e)
+
     module _ (sums : NoneSkipped align skew gaps) where
       -- the least free span of all, lowest address first
       pub first-fit : 0 < n → (a : ℕ) → firstFit n align skew gaps ≡ some a → (p : ℕ) → FreeSpan te len rs n align skew p → a ≤ p
       first-fit z a e p s = fit-least n align skew pos te gaps (gaps-apart te len rs small) sums a e p (free-fits z p s)
 
-      -- none exactly where there is none
+      -- none only where there is none
       pub no-fit : 0 < n → firstFit n align skew gaps ≡ none → (p : ℕ) → FreeSpan te len rs n align skew p → ⊥
       no-fit z e p s = fit-none n align skew pos gaps sums e p (free-fits z p s)
-
-      pub no-span : 0 < n → ((p : ℕ) → FreeSpan te len rs n align skew p → ⊥) → firstFit n align skew gaps ≡ none
-      no-span z f = by-answer (firstFit n align skew gaps) (λ a e. absurd (f a (fit-free z a e))) (λ e. e)
 
       -- of any length, 0 too: the least place in a gap, its end included
       pub first-place : (a : ℕ) → firstFit n align skew gaps ≡ some a → (p : ℕ) → Fits gaps n align skew p → a ≤ p
       first-place a e p f = fit-least n align skew pos te gaps (gaps-apart te len rs small) sums a e p f
+
+-- ---- at one stroke, where no sum passes 2^64 - 1: the least free span of all, and none exactly where there is none
+
+pub record LeastSpan (te len : ℕ) (rs : List Range) (n align skew a : ℕ) : Type 0 where
+  pub span : FreeSpan te len rs n align skew a
+  pub least : (p : ℕ) → FreeSpan te len rs n align skew p → a ≤ p
+
+pub record Lowest (te len : ℕ) (rs : List Range) (n align skew : ℕ) (o : Option ℕ) : Type 0 where
+  pub is-some : (a : ℕ) → o ≡ some a → LeastSpan te len rs n align skew a
+  pub some-is : (a : ℕ) → LeastSpan te len rs n align skew a → o ≡ some a
+  pub is-none : o ≡ none → (p : ℕ) → FreeSpan te len rs n align skew p → ⊥
+  pub none-is : ((p : ℕ) → FreeSpan te len rs n align skew p → ⊥) → o ≡ none
+
+pub fit-lowest : (te len : ℕ) (rs : List Range) (n align skew : ℕ) → 0 < n → 0 < align → len + skew + (align - 1) ≤ top → Lowest te len rs n align skew (firstFit n align skew (gapsOf te len rs))
+fit-lowest te len rs n align skew z pos h =
+    let small : len ≤ top = omega arith in
+    let sums = sums-below te len rs small n align skew h in
+    let least : (a : ℕ) → firstFit n align skew (gapsOf te len rs) ≡ some a → LeastSpan te len rs n align skew a = λ a e.
+    record { span = fit-free te len rs small n align skew pos z a e; least = first-fit te len rs small n align skew pos sums z a e } in
+    record {
+      is-some = least;
+      some-is = λ a s.
+          by-answer (firstFit n align skew (gapsOf te len rs))
+          (λ b e. let l = least b e in e ∙ ap some (le-antisymm (l .least a (s .span)) (s .least b (l .span))))
+          (λ e. absurd (no-fit te len rs small n align skew pos sums z e a (s .span)));
+      is-none = no-fit te len rs small n align skew pos sums z;
+      none-is = no-span te len rs small n align skew pos z;
+    }
+
+-- ---- a free span "meets nothing held"
+
+module _ (te len : ℕ) (rs : List Range) (small : len ≤ top) (n align skew p : ℕ) where
+  pub span-meets-none : FreeSpan te len rs n align skew p → MeetsNone (range p n) rs
+  span-meets-none s =
+      all-of (λ (r : Range). Meet (range p n) r → ⊥) rs blank
+      (λ i h m.
+      let l = m .left .from in
+      let u = m .left .upto in
+      let e = end-le (range p n) in
+      s .free (m .byte) l (omega arith) (any-of (λ (r : Range). Has r (m .byte)) rs i blank h (m .right)))
+
+  pub meets-none-span : Multiple align skew p → te ≤ p → p + n ≤ len → MeetsNone (range p n) rs → FreeSpan te len rs n align skew p
+  meets-none-span m l u a =
+      record {
+        multiple = m;
+        from = l;
+        upto = u;
+        free = λ b f t c.
+            let q = any-at (λ (r : Range). Has r b) rs blank c in
+            let e = end-exact (range p n) (omega arith) in
+            all-at (λ (r : Range). Meet (range p n) r → ⊥) rs (q .0) blank a (q .1) (record { byte = b; left = record { from = f; upto = omega arith }; right = q .2 });
+      }

@@ -3,7 +3,6 @@ use Prim.Native.Nat.{ℕ, _+_, _-_, _*_, _/_, _≤_, _<_, min, max}
 use mathlib.Core.Bool.{Bool, true, false, not, cond, or-true}
 use mathlib.Core.List.{List, [], _∷_, _++_, append-nil, append-assoc}
 use mathlib.Core.Logic.{_⊎_, inl, inr, ⊎-elim}
-use mathlib.Core.Option.{some}
 use mathlib.Core.Path.{_≡_, refl, ap, sym, _∙_}
 use native.Mathlib.Omega.{arith}
 use lib.Dec.{eqb}
@@ -17,6 +16,7 @@ use Rattle.numbers.specs.Lists.{written, All, any}
 use Rattle.numbers.specs.Order.{InOrder, precedes}
 use Rattle.numbers.specs.Pairs.{isOdd, pairs, flat}
 use Rattle.numbers.specs.Range.{Range, range, endOf, has}
+use Rattle.numbers.specs.Refusals.{accepted, answer, refuse}
 use Rattle.numbers.specs.Sums.{top}
 use Rattle.sort.specs.Sort.{Sorted, sorted, insert, Ascending}
 use Rattle.freemap.proofs.Maximal.{max-skip, max-take, max-same}
@@ -283,15 +283,17 @@ module _ (rs gs : List ℕ) where
       simp (e, le-ltb _ _ t)
 
   pub complement-refused : (te len : ℕ) → complementFails rs gs ≡ true → Complemented te len rs rs gs gs (Refused 1)
+  unfolding answer refuse
   complement-refused te len e = record { answer = simp e; ranges = simp e; slots = simp e }
 
   pub complement-done : (te len : ℕ) (rs′ gs′ : List ℕ) (r : ℕ) (m : FreeMap) → len ≤ top → isOdd rs ≡ false → length rs / 2 < length gs / 2 → Sorted rs rs′ r → Swept te len (pairs rs′) gs gs′ m → Complemented te len rs rs′ gs gs′ (Map m)
+  unfolding answer refuse
   complement-done te len rs′ gs′ r m h o l s w =
       let f = passes-both o l in
       let p = sorted-pairs rs rs′ r s o in
       let e : swept len te (pairs rs′) ≡ gapsOf te len (pairs rs) = ap (swept len te) p ∙ swept-of te len (pairs rs) h in
       record {
-        answer = simp f (λ i. record { number = 0; map = some (record { count = (w .count ∙ ap length e) i; tail = (w .tail ∙ ap (tailOf te) p ∙ tail-sorted te (pairs rs)) i }) });
+        answer = simp f (λ i. accepted (record { count = (w .count ∙ ap length e) i; tail = (w .tail ∙ ap (tailOf te) p ∙ tail-sorted te (pairs rs)) i }));
         ranges = simp f (simp o at (s .list));
         slots = simp f (w .slots ∙ ap (λ (q : List Range). written (flat q) gs) e);
       }

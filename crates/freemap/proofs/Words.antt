@@ -1,30 +1,32 @@
 -- What document 01 says of gaps, tail and free bytes, in words: of bytes, and of the list that `complement` leaves.
 use Prim.Native.Nat.{ℕ, zero, suc, _+_, _-_, _≤_, _<_, max}
 use mathlib.Core.Bool.{Bool, true, false, not}
-use mathlib.Core.List.{List, [], _∷_}
+use mathlib.Core.List.{List, [], _∷_, _++_}
 use mathlib.Core.Logic.{_⊎_, inl, inr, ⊎-elim}
-use mathlib.Core.Option.{none, some}
-use mathlib.Core.Path.{_≡_, refl, ap, _∙_}
+use mathlib.Core.Path.{_≡_, refl, ap, sym, _∙_}
+use native.Mathlib.Nat.{le-antisymm}
 use native.Mathlib.Omega.{arith}
 use lib.ListN.{length, getD}
 use borrow.Author.Tests.{eq-eqb, ne-eqb, not-true, le-ltb}
 use Rattle.freemap.specs.Bytes.{counted, freeOf}
-use Rattle.freemap.specs.Fit.{firstFit, found, fitRefusal, fitOf}
-use Rattle.freemap.specs.Gaps.{Covered, covered, free, maximal, gapsOf, tailOf, Answer, answerOf, freeMapOf, complementFails, Complemented, gapsIn, tooFew}
+use Rattle.freemap.specs.Fit.{firstFit, fitRefusal, fitOf}
+use Rattle.freemap.specs.Gaps.{Covered, covered, free, maximal, gapsOf, tailOf, answerOf, freeMapOf, complementFails, Complemented, gapsIn, tooFew}
 use Rattle.freemap.specs.declared.Complement.the-variants.{Map}
 use Rattle.freemap.specs.declared.FreeMap.{FreeMap}
 use Rattle.numbers.specs.Lists.{All, Any, written}
 use Rattle.numbers.specs.Pairs.{pairs, flat}
 use Rattle.numbers.specs.Powers.{isPowerOfTwo}
 use Rattle.numbers.specs.Range.{Range, blank, endOf, Has, has, Meet, total}
-use Rattle.numbers.specs.Refusals.{first, refuse}
+use Rattle.numbers.specs.Refusals.{accepted, answer, first, refuse}
 use Rattle.numbers.specs.Sums.{top, stop}
-use Rattle.freemap.proofs.Maximal.{Apart, max-apart, max-has, max-of, max-total, max-ends}
+use Rattle.freemap.proofs.Maximal.{Apart, max-apart, max-has, max-of, max-total, max-ends, max-same}
 use Rattle.freemap.proofs.Ordered.{Spans, Ends, span-in, apart-only}
+use Rattle.numbers.proofs.Answers.{accepted-is}
 use Rattle.numbers.proofs.Cases.{cases, by-eq, by-lt, clash, never}
-use Rattle.numbers.proofs.Lists.{all-imp, all-of, any-true, of-any, any-of, any-imp}
+use Rattle.numbers.proofs.Lists.{all-imp, all-of, all-at, any-true, of-any, any-of, any-at, any-imp}
 use Rattle.numbers.proofs.Pairs.{written-front, written-places}
 use Rattle.numbers.proofs.Ranges.{has-true, true-has}
+use Rattle.numbers.proofs.Refusals.{refuse-none}
 
 -- ---- which bytes are free
 
@@ -86,13 +88,21 @@ module _ (te len : ℕ) (rs : List Range) (small : len ≤ top) where
       apart-only te te gs (gapsOf te len rs) a gaps-apart e (all-imp (λ (g : Range). g .offset + g .len ≤ len) (λ (g : Range). g .offset + g .len ≤ top) (λ x h. omega arith) (gapsOf te len rs) gaps-inside)
       (λ x h. let k = f x h in in-gap x (k .0) (k .1) (k .2)) (λ x h. let k = gap-free x h in g x (k .0) (k .1) (k .2))
 
+-- so they depend on which bytes are covered and on nothing else
+pub gaps-same : (te len : ℕ) (rs qs : List Range) → ((b : ℕ) → te ≤ b → b < len → covered rs b ≡ covered qs b) → gapsOf te len rs ≡ gapsOf te len qs
+gaps-same te len rs qs e = max-same (free rs) (free qs) te (len - te) (λ b l u. ap not (e b l (omega arith)))
+
 -- ---- tail
+
+-- A range of length above 0 ends at t.
+abbrev pub EndsAt : ℕ → Range → Type 0
+EndsAt t r = (0 < r .len) × (t ≡ endOf r)
 
 -- "the greatest of table end and all ends of ranges of length above 0"
 pub record Greatest (te : ℕ) (rs : List Range) (t : ℕ) : Type 0 where
   pub table : te ≤ t
   pub ends : All (λ (r : Range). 0 < r .len → endOf r ≤ t) rs
-  pub one : (t ≡ te) ⊎ Any (λ (r : Range). (0 < r .len) × (t ≡ endOf r)) rs
+  pub one : (t ≡ te) ⊎ Any (EndsAt t) rs
 
 -- a range of length above 0 in front
 greatest-next : (te t : ℕ) (r : Range) (rs : List Range) → 0 < r .len → Greatest te rs t → Greatest te (r ∷ rs) (max (endOf r) t)
@@ -106,7 +116,7 @@ greatest-next te t r rs p g =
           (λ h.
           let m : max (endOf r) t ≡ t = omega arith in
           ⊎-elim (λ e. inl (m ∙ e))
-          (λ a. inr (inr (any-imp (λ (x : Range). (0 < x .len) × (t ≡ endOf x)) (λ (x : Range). (0 < x .len) × (max (endOf r) t ≡ endOf x)) (λ x f. (f .0, m ∙ f .1)) rs a)))
+          (λ a. inr (inr (any-imp (EndsAt t) (EndsAt (max (endOf r) t)) (λ x f. (f .0, m ∙ f .1)) rs a)))
           (g .one))
           (λ h. inr (inl (p, omega arith)));
     }
@@ -125,6 +135,42 @@ tail-greatest te (r ∷ rs) =
       one = ⊎-elim (λ e. inl e) (λ a. inr (inr a)) (g .one);
     }))
     (λ d. simp (ne-eqb _ _ d) (greatest-next te (tailOf te rs) r rs (omega arith) g))
+
+-- a greatest end that is also one of qs is not above theirs
+greatest-le : (te : ℕ) (rs qs : List Range) (t u : ℕ) → (Any (EndsAt t) rs → Any (EndsAt t) qs) → Greatest te rs t → Greatest te qs u → t ≤ u
+greatest-le te rs qs t u f g h =
+    ⊎-elim (λ e. let k = h .table in omega arith)
+    (λ a.
+    let p = any-at (EndsAt t) qs blank (f a) in
+    let k = all-at (λ (r : Range). 0 < r .len → endOf r ≤ u) qs (p .0) blank (h .ends) (p .1) (p .2 .0) in
+    omega (arith, p .2 .1))
+    (g .one)
+
+-- no other number is the greatest, and it depends on the ends and on nothing else
+pub tail-only : (te : ℕ) (rs : List Range) (t : ℕ) → Greatest te rs t → t ≡ tailOf te rs
+tail-only te rs t g =
+    let h = tail-greatest te rs in
+    le-antisymm (greatest-le te rs rs _ _ (λ a. a) g h) (greatest-le te rs rs _ _ (λ a. a) h g)
+
+pub tail-same : (te : ℕ) (rs qs : List Range) → ((t : ℕ) → Any (EndsAt t) rs → Any (EndsAt t) qs) → ((t : ℕ) → Any (EndsAt t) qs → Any (EndsAt t) rs) → tailOf te rs ≡ tailOf te qs
+tail-same te rs qs f g =
+    let a = tail-greatest te rs in
+    let b = tail-greatest te qs in
+    le-antisymm (greatest-le te rs qs _ _ (f _) a b) (greatest-le te qs rs _ _ (g _) b a)
+
+-- of two lists, and with one range more
+pub tail-append : (te : ℕ) (xs ys : List Range) → tailOf te (xs ++ ys) ≡ max (tailOf te xs) (tailOf te ys)
+unfolding tailOf
+tail-append te [] ys = let h = tail-greatest te ys .table in omega arith
+tail-append te (x ∷ xs) ys =
+    let i = tail-append te xs ys in
+    by-eq (x .len) 0 (λ z. simp (eq-eqb _ _ z) i) (λ d. simp (ne-eqb _ _ d) (omega arith))
+
+pub tail-with : (te : ℕ) (xs : List Range) (y : Range) (ys : List Range) → tailOf te (xs ++ (y ∷ ys)) ≡ tailOf te (y ∷ (xs ++ ys))
+unfolding tailOf
+tail-with te xs y ys =
+    let a = tail-append te xs ys in
+    tail-append te xs (y ∷ ys) ∙ by-eq (y .len) 0 (λ z. simp (eq-eqb _ _ z) (sym a)) (λ d. simp (ne-eqb _ _ d) (omega arith))
 
 -- ---- free bytes
 
@@ -159,12 +205,9 @@ pub record ReadsAs (te len : ℕ) (rs : List Range) (m : FreeMap) (gs : List ℕ
 pub gaps-read : (te len : ℕ) (rs₀ rs gs₀ gs : List ℕ) (m : FreeMap) → Complemented te len rs₀ rs gs₀ gs (Map m) → ReadsAs te len (pairs rs₀) m gs
 unfolding tooFew
 gaps-read te len rs₀ rs gs₀ gs m c =
-    cases (complementFails rs₀ gs₀)
-    (λ e. let a : answerOf (Map m) ≡ record { number = 1; map = none } = simp e at (c .answer) in let z = ap (λ (x : Answer). x .number) a in absurd (omega arith))
-    (λ e.
-    let a : answerOf (Map m) ≡ record { number = 0; map = some (freeMapOf te len (pairs rs₀)) } = simp e at (c .answer) in
-    let o : some m ≡ some (freeMapOf te len (pairs rs₀)) = ap (λ (x : Answer). x .map) a in
-    let q : m ≡ freeMapOf te len (pairs rs₀) = cc in
+    let a = accepted-is _ _ m (sym (c .answer)) in
+    let e = refuse-none 1 (complementFails rs₀ gs₀) (omega arith) (a .0) in
+    let q : m ≡ freeMapOf te len (pairs rs₀) = sym (a .1) in
     let n : m .count ≡ length (gapsOf te len (pairs rs₀)) = ap (λ (x : FreeMap). x .count) q in
     let s : gs ≡ written (flat (gapsOf te len (pairs rs₀))) gs₀ = simp e at (c .slots) in
     record {
@@ -173,14 +216,14 @@ gaps-read te len rs₀ rs gs₀ gs m c =
       enough =
           let h : m .count ≤ length (pairs gs) = rw (s, n) (written-places (gapsOf te len (pairs rs₀)) gs₀) in
           le-ltb _ _ h;
-    })
+    }
 
 -- so `first_fit` and `free_bytes` answer by these gaps
 module _ {te len : ℕ} {rs : List Range} {m : FreeMap} {gs : List ℕ} (g : ReadsAs te len rs m gs) where
-  pub read-fit : (n align skew : ℕ) → isPowerOfTwo align ≡ true → fitOf m gs n align skew ≡ found (firstFit n align skew (gapsOf te len rs))
-  unfolding fitRefusal first refuse
-  read-fit n align skew p = simp (g .enough, p) (ap (λ (l : List Range). found (firstFit n align skew l)) (g .gaps))
+  pub read-fit : (n align skew : ℕ) → isPowerOfTwo align ≡ true → fitOf m gs n align skew ≡ accepted (firstFit n align skew (gapsOf te len rs))
+  unfolding answer fitRefusal first refuse
+  read-fit n align skew p = simp (g .enough, p) (ap (λ (l : List Range). accepted (firstFit n align skew l)) (g .gaps))
 
-  pub read-bytes : len ≤ top → freeOf m gs ≡ record { number = 0; bytes = total (gapsOf te len rs) }
-  read-bytes h =
-      simp (g .enough) (λ i. record { number = 0; bytes = (ap (λ (l : List Range). stop (total l)) (g .gaps) ∙ free-whole te len rs h) i })
+  pub read-bytes : len ≤ top → freeOf m gs ≡ accepted (total (gapsOf te len rs))
+  unfolding answer refuse
+  read-bytes h = simp (g .enough) (ap accepted (ap (λ (l : List Range). stop (total l)) (g .gaps) ∙ free-whole te len rs h))

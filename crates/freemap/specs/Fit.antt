@@ -3,7 +3,7 @@ use Prim.Native.Nat.{ℕ, _+_, _-_}
 use mathlib.Core.Bool.{Bool, cond, not, _&&_}
 use mathlib.Core.List.{List, [], _∷_}
 use mathlib.Core.Option.{Option, none, some}
-use lib.Dec.{ltb, leb, eqb}
+use lib.Dec.{ltb, leb}
 use Rattle.align.specs.Align.{upTo}
 use Rattle.freemap.specs.Gaps.{gapsIn, tooFew}
 use Rattle.freemap.specs.declared.Fit.{Fit}
@@ -11,7 +11,7 @@ use Rattle.freemap.specs.declared.FreeMap.{FreeMap}
 use Rattle.freemap.specs.declared.Fit.the-variants as fit
 use Rattle.numbers.specs.Powers.{isPowerOfTwo}
 use Rattle.numbers.specs.Range.{Range, endOf}
-use Rattle.numbers.specs.Refusals.{refuse, first}
+use Rattle.numbers.specs.Refusals.{Answer, accepted, refused, answer, refuse, first}
 use Rattle.numbers.specs.Sums.{top}
 
 -- "the least at >= start with at + skew a multiple of align"; `place-least` (proofs/Places) says that it is.
@@ -31,27 +31,16 @@ unfoldable pub firstFit : ℕ → ℕ → ℕ → List Range → Option ℕ
 firstFit len align skew [] = none
 firstFit len align skew (g ∷ gs) = cond (allows len align skew g) (some (placeIn align skew g)) (firstFit len align skew gs)
 
--- Document 01's number, 0 where the call is accepted, and the place, if there is one.
-pub record Place : Type 0 where
-  pub number : ℕ
-  pub at : Option ℕ
-
-abbrev pub found : Option ℕ → Place
-found o = record { number = 0; at = o }
-
-abbrev pub placeOf : Fit → Place
-placeOf (fit.At a) = found (some a)
-placeOf fit.Nothing = found none
-placeOf (fit.Refused n) = record { number = n; at = none }
+-- The answer as a place, or none, or document 01's number.
+abbrev pub placeOf : Fit → Answer (Option ℕ)
+placeOf (fit.At a) = accepted (some a)
+placeOf fit.Nothing = accepted none
+placeOf (fit.Refused n) = refused n
 
 -- 1, then 2, "a free-map call's align is no power of two".
 unfoldable pub fitRefusal : FreeMap → List ℕ → ℕ → ℕ
 fitRefusal m gs align = first (refuse 1 (tooFew m gs) ∷ refuse 2 (not (isPowerOfTwo align)) ∷ [])
 
 -- What `first_fit` answers, of any record and list.
-abbrev pub fitOf : FreeMap → List ℕ → ℕ → ℕ → ℕ → Place
-fitOf m gs len align skew =
-    record {
-      number = fitRefusal m gs align;
-      at = cond (eqb (fitRefusal m gs align) 0) (firstFit len align skew (gapsIn m gs)) none;
-    }
+abbrev pub fitOf : FreeMap → List ℕ → ℕ → ℕ → ℕ → Answer (Option ℕ)
+fitOf m gs len align skew = answer (fitRefusal m gs align) (firstFit len align skew (gapsIn m gs))

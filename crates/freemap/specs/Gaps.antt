@@ -2,7 +2,6 @@
 use Prim.Native.Nat.{ℕ, zero, suc, _+_, _-_, max}
 use mathlib.Core.Bool.{Bool, cond, not, _||_}
 use mathlib.Core.List.{List, [], _∷_}
-use mathlib.Core.Option.{Option, none, some}
 use mathlib.Core.Path.{_≡_}
 use lib.Dec.{ltb, eqb}
 use lib.ListN.{length, take}
@@ -12,6 +11,7 @@ use Rattle.freemap.specs.declared.FreeMap.{FreeMap}
 use Rattle.numbers.specs.Lists.{Any, any, listAfter}
 use Rattle.numbers.specs.Pairs.{isOdd, pairs, flat}
 use Rattle.numbers.specs.Range.{Range, range, endOf, Has, has}
+use Rattle.numbers.specs.Refusals.{Answer, accepted, refused, answer, refuse}
 use Rattle.sort.specs.Sort.{sorted}
 
 -- Some range of a list has the byte b.
@@ -51,14 +51,10 @@ tailOf te (r ∷ rs) = cond (eqb (r .len) 0) (tailOf te rs) (max (endOf r) (tail
 unfoldable pub complementFails : List ℕ → List ℕ → Bool
 complementFails rs gs = isOdd rs || ltb (length (pairs gs)) (length (pairs rs) + 1)
 
--- Document 01's number, 0 where the call is accepted, and the record handed back, none where it is refused.
-pub record Answer : Type 0 where
-  pub number : ℕ
-  pub map : Option FreeMap
-
-abbrev pub answerOf : Complement → Answer
-answerOf (Map m) = record { number = 0; map = some m }
-answerOf (Refused n) = record { number = n; map = none }
+-- The answer as the record handed back, or document 01's number.
+abbrev pub answerOf : Complement → Answer FreeMap
+answerOf (Map m) = accepted m
+answerOf (Refused n) = refused n
 
 -- The record of a container with ranges: how many gaps there are, and tail.
 abbrev pub freeMapOf : ℕ → ℕ → List Range → FreeMap
@@ -66,9 +62,7 @@ freeMapOf te len rs = record { count = length (gapsOf te len rs); tail = tailOf 
 
 -- What `complement` promises: its answer, the ranges, sorted, and every slot of the list of gaps. A refused call changes nothing.
 pub record Complemented (te len : ℕ) (rs₀ rs gs₀ gs : List ℕ) (r : Complement) : Type 0 where
-  pub answer :
-      answerOf r ≡ cond (complementFails rs₀ gs₀) (record { number = 1; map = none })
-      (record { number = 0; map = some (freeMapOf te len (pairs rs₀)) })
+  pub answer : answerOf r ≡ answer (refuse 1 (complementFails rs₀ gs₀)) (freeMapOf te len (pairs rs₀))
   pub ranges : rs ≡ cond (complementFails rs₀ gs₀) rs₀ (flat (sorted (pairs rs₀)))
   pub slots : gs ≡ listAfter (complementFails rs₀ gs₀) (flat (gapsOf te len (pairs rs₀))) gs₀
 

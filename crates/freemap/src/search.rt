@@ -9,7 +9,8 @@ ghost use Rattle.numbers.specs.Pairs.{pairs};
 ghost use Rattle.numbers.specs.Powers.{isPowerOfTwo};
 ghost use Rattle.numbers.specs.Range.{range};
 ghost use Rattle.numbers.specs.Sums.{top};
-ghost use Rattle.freemap.specs.Fit.{placeOf, found, firstFit};
+ghost use Rattle.numbers.specs.Refusals.{accepted};
+ghost use Rattle.freemap.specs.Fit.{placeOf, firstFit};
 ghost use Rattle.freemap.specs.Inner.{spotOf};
 
 const TOP: u64 = 0xffff_ffff_ffff_ffff;
@@ -47,7 +48,7 @@ fn fit_in(start: u64, bytes: u64, len: u64, mask: u64, skew: u64) -> Spot
 // The place of len bytes in the first gap that allows it, where mask is align - 1.
 pub(crate) fn search(gaps: &[u64], len: u64, mask: u64, skew: u64) -> Fit
     requires { ⌜ isPowerOfTwo (mask + 1) ≡ true ⌝ }
-    ensures { λ r. ⌜ placeOf r ≡ found (firstFit len (mask + 1) skew (pairs (now (gaps .entry)))) ⌝ }
+    ensures { λ r. ⌜ placeOf r ≡ accepted (firstFit len (mask + 1) skew (pairs (now (gaps .entry)))) ⌝ }
 {
     if numbers::passes(skew, mask, TOP) {
         return Fit::Nothing;

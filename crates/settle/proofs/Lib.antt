@@ -14,3 +14,4 @@ pub mod Sweeping
 pub mod Meeting
 pub mod Striking
 pub mod Settling
+pub mod Unmarked

@@ -1,15 +1,88 @@
--- The marks, written one by one.
-use Prim.Native.Nat.{ℕ, zero, suc, _+_, _*_, _≤_, _<_}
+-- The marks: what each is, and how they are written one by one.
+use Prim.Native.Nat.{ℕ, zero, suc, _+_, _*_, _/_, _%_, _≤_, _<_}
 use mathlib.Core.Bool.{Bool, true, false, cond}
 use mathlib.Core.List.{List, [], _∷_}
 use mathlib.Core.Path.{_≡_, refl, ap, sym, _∙_}
+use native.Mathlib.Nat.{le-of-suc-le-suc, not-suc-le-zero}
 use native.Mathlib.Omega.{arith}
-use lib.ListN.{length, set, length-append}
+use lib.Dec.{eqb}
+use lib.ListN.{length, getD, set, length-append}
 use Rattle.numbers.specs.Lists.{written}
-use Rattle.settle.specs.Inner.{firsts}
-use Rattle.settle.specs.Settle.{markOf}
+use Rattle.settle.specs.Inner.{firsts, noRegion}
+use Rattle.settle.specs.Regions.{Region}
+use Rattle.settle.specs.Settle.{overlapped, renamed, superseded, markOf, marksFrom, marksOf}
 use Rattle.numbers.proofs.Lists.{written-length, written-next}
 use mir.Val.{boolByte}
+
+-- ---- the marks that are promised
+
+from-length : (us un : List Region) (j : ℕ) (rs : List Region) → length (marksFrom us un j rs) ≡ length rs
+unfolding marksFrom
+from-length us un j [] = refl
+from-length us un j (r ∷ rs) = ap suc (from-length us un (suc j) rs)
+
+from-at : (us un : List Region) (j : ℕ) (rs : List Region) (i : ℕ) → i < length rs
+    → getD (marksFrom us un j rs) i 0 ≡ markOf (overlapped us (j + i)) (renamed us un (getD rs i noRegion)) (superseded us un (j + i))
+unfolding marksFrom
+from-at us un j [] i h = absurd (not-suc-le-zero h)
+from-at us un j (r ∷ rs) zero h =
+    let e : j ≡ j + 0 = omega arith in
+    ap (λ (k : ℕ). markOf (overlapped us k) (renamed us un r) (superseded us un k)) e
+from-at us un j (r ∷ rs) (suc i) h =
+    let e : suc j + i ≡ j + suc i = omega arith in
+    from-at us un (suc j) rs i (le-of-suc-le-suc h)
+    ∙ ap (λ (k : ℕ). markOf (overlapped us k) (renamed us un (getD rs i noRegion)) (superseded us un k)) e
+
+-- what stands at each place
+module _ (us un : List Region) where
+  pub marks-length : length (marksOf us un) ≡ length us
+  marks-length = from-length us un 0 us
+
+  pub mark-at : (i : ℕ) → i < length us → getD (marksOf us un) i 0 ≡ markOf (overlapped us i) (renamed us un (getD us i noRegion)) (superseded us un i)
+  mark-at i h =
+      let e : 0 + i ≡ i = omega arith in
+      from-at us un 0 us i h ∙ ap (λ (k : ℕ). markOf (overlapped us k) (renamed us un (getD us i noRegion)) (superseded us un k)) e
+
+-- each of the three is read back from the number
+pub mark-overlapped : (o r s : Bool) → eqb (markOf o r s % 2) 1 ≡ o
+mark-overlapped true true true = refl
+mark-overlapped true true false = refl
+mark-overlapped true false true = refl
+mark-overlapped true false false = refl
+mark-overlapped false true true = refl
+mark-overlapped false true false = refl
+mark-overlapped false false true = refl
+mark-overlapped false false false = refl
+
+pub mark-renamed : (o r s : Bool) → eqb (markOf o r s / 2 % 2) 1 ≡ r
+mark-renamed true true true = refl
+mark-renamed true true false = refl
+mark-renamed true false true = refl
+mark-renamed true false false = refl
+mark-renamed false true true = refl
+mark-renamed false true false = refl
+mark-renamed false false true = refl
+mark-renamed false false false = refl
+
+pub mark-superseded : (o r s : Bool) → eqb (markOf o r s / 4) 1 ≡ s
+mark-superseded true true true = refl
+mark-superseded true true false = refl
+mark-superseded true false true = refl
+mark-superseded true false false = refl
+mark-superseded false true true = refl
+mark-superseded false true false = refl
+mark-superseded false false true = refl
+mark-superseded false false false = refl
+
+-- it is 0 exactly where none holds
+pub mark-none : (o r s : Bool) → markOf o r s ≡ 0 → (o ≡ false) × (r ≡ false) × (s ≡ false)
+mark-none o r s e =
+    (sym (mark-overlapped o r s) ∙ ap (λ (n : ℕ). eqb (n % 2) 1) e, sym (mark-renamed o r s) ∙ ap (λ (n : ℕ). eqb (n / 2 % 2) 1) e, sym (mark-superseded o r s) ∙ ap (λ (n : ℕ). eqb (n / 4) 1) e)
+
+pub none-mark : (o r s : Bool) → o ≡ false → r ≡ false → s ≡ false → markOf o r s ≡ 0
+none-mark o r s a b c = simp (a, b, c)
+
+-- ---- as the code writes them
 
 pub byte-small : (b : Bool) → boolByte b ≤ 1
 byte-small true = omega arith

@@ -31,13 +31,13 @@ use Rattle.sort.proofs.Laws.{all-sorted, sorted-ascending, sorted-length}
 -- ---- the pieces of regions
 
 -- a piece of the regions rs, whose first one has the place i
-record Of (rs : List Region) (i : ℕ) (x : Piece) : Type 0 where
-  at : ℕ
-  inside : at < length rs
-  region : x .region ≡ i + at
-  seq : x .seq ≡ getD rs at noRegion .seq
+pub record Of (rs : List Region) (i : ℕ) (x : Piece) : Type 0 where
+  pub at : ℕ
+  pub inside : at < length rs
+  pub region : x .region ≡ i + at
+  pub seq : x .seq ≡ getD rs at noRegion .seq
 
-pieces-of : (rs : List Region) (i : ℕ) → All (Of rs i) (piecesFrom i rs)
+pub pieces-of : (rs : List Region) (i : ℕ) → All (Of rs i) (piecesFrom i rs)
 unfolding piecesFrom
 pieces-of [] i = tt
 pieces-of (r ∷ rs) i =

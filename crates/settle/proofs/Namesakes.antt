@@ -74,11 +74,11 @@ module _ (xs : List Region) (r : Region) (ys : List Region) where
 
 -- ---- the records in front of i, those behind it, and those of the other kind
 
-abbrev named : Region → Bool
+abbrev pub named : Region → Bool
 named q = q .named
 
 -- q has the name of r and no lower number
-abbrev alike : Region → Region → Bool
+abbrev pub alike : Region → Region → Bool
 alike r q = same (q .name) (r .name) && leb (r .seq) (q .seq)
 
 module _ (us un : List Region) (i : ℕ) (h : i < length us) where
@@ -100,7 +100,7 @@ module _ (us un : List Region) (i : ℕ) (h : i < length us) where
       ∙ keep-append its (take i us) (r ∷ rest)
       ∙ simp (true-same (r .name) (r .name) refl)
 
-  renamed-others : renamed us un r ≡ (any (alike r) (take i us) || (any (alike r) (drop (suc i) us) || any (λ (q : Region). named q && alike r q) un))
+  pub renamed-others : renamed us un r ≡ (any (alike r) (take i us) || (any (alike r) (drop (suc i) us) || any (λ (q : Region). named q && alike r q) un))
   unfolding renamed
   renamed-others =
       ap (λ (l : List Region). any (λ (q : Region). ltb (r .seq) (q .seq)) l || ltb 1 (length (keep (λ (q : Region). eqb (q .seq) (highest l)) l))) itself
@@ -126,7 +126,7 @@ module _ {A : Type 0} (g : A → Bool) (d : A) where
       (λ t. let a = any-at (λ (x : A). g x ≡ true) l d (any-true g l t) in let h : a .0 < n = rw z at (a .1) in below-of f n (a .0) h (e (a .0) h ∙ a .2))
 
   -- every element but the one at i
-  others-by-index :
+  pub others-by-index :
       (f : ℕ → Bool) (l : List A) (n i : ℕ) → length l ≡ n → i < n → f i ≡ false → ((j : ℕ) → j < n → (j ≡ i → ⊥) → f j ≡ g (getD l j d))
       → anyBelow f n ≡ (any g (take i l) || any g (drop (suc i) l))
   unfolding anyBelow

@@ -16,7 +16,7 @@ use Rattle.settle.specs.Naming.{outdone}
 use Rattle.settle.specs.Regions.{Lent, Region, regionsOf}
 use Rattle.settle.specs.Settle.{overlapped, superseded, renamed, markOf, marksFrom, marksOf, rangesIn, settleFails, Settled}
 use Rattle.numbers.proofs.Cases.{by-lt, clash, or-false}
-use Rattle.settle.proofs.Marking.{firsts-length}
+use Rattle.settle.proofs.Marking.{firsts-length, marks-length, mark-at}
 use Rattle.settle.proofs.Namesakes.{renamed-is}
 use Rattle.settle.proofs.Reading.{length-of}
 use Rattle.settle.proofs.Refusing.{passed, short, own-short}
@@ -86,23 +86,6 @@ firsts-at f (suc n) i h =
     by-lt i n (λ k. List·getD-append (firsts f n) (f n ∷ []) 0 i (omega arith) ∙ firsts-at f n i k)
     (λ k. let e : n ≡ i = omega arith in getD-at (firsts f n) (f n) [] 0 i (l ∙ e) ∙ ap f e)
 
-marks-length : (us un : List Region) (j : ℕ) (rs : List Region) → length (marksFrom us un j rs) ≡ length rs
-unfolding marksFrom
-marks-length us un j [] = refl
-marks-length us un j (r ∷ rs) = ap suc (marks-length us un (suc j) rs)
-
-marks-at : (us un : List Region) (j : ℕ) (rs : List Region) (i : ℕ) → i < length rs
-    → getD (marksFrom us un j rs) i 0 ≡ markOf (overlapped us (j + i)) (renamed us un (getD rs i noRegion)) (superseded us un (j + i))
-unfolding marksFrom
-marks-at us un j [] i h = absurd (not-suc-le-zero h)
-marks-at us un j (r ∷ rs) zero h =
-    let e : j ≡ j + 0 = omega arith in
-    ap (λ (k : ℕ). markOf (overlapped us k) (renamed us un r) (superseded us un k)) e
-marks-at us un j (r ∷ rs) (suc i) h =
-    let e : suc j + i ≡ j + suc i = omega arith in
-    marks-at us un (suc j) rs i (le-of-suc-le-suc h)
-    ∙ ap (λ (k : ℕ). markOf (overlapped us k) (renamed us un (getD rs i noRegion)) (superseded us un k)) e
-
 module _ (us un : Lent) {marks scratch : ℕ} (g : Accepted us un marks scratch) (over under : List Bool) (s : Struck us un over under) where
   abbrev pub found : ℕ → ℕ
   found i = markOf (getD over i false) (outdone i (us .count) (us .seqs) (us .lens) (us .names) (un .count) (un .seqs) (un .lens) (un .names)) (getD under i false)
@@ -111,17 +94,15 @@ module _ (us un : Lent) {marks scratch : ℕ} (g : Accepted us un marks scratch)
   marks-found =
       let l = length-of us in
       let f = firsts-length found (us .count) in
-      let m = marks-length (regionsOf us) (regionsOf un) 0 (regionsOf us) in
+      let m = marks-length (regionsOf us) (regionsOf un) in
       ext-getD 0 (firsts found (us .count)) (marksOf (regionsOf us) (regionsOf un)) (omega arith) (λ i h. at i (omega arith))
     where
       at : (i : ℕ) → i < us .count → getD (firsts found (us .count)) i 0 ≡ getD (marksOf (regionsOf us) (regionsOf un)) i 0
       at i h =
           let l = length-of us in
-          let z : 0 + i ≡ i = omega arith in
           firsts-at found (us .count) i h
           ∙ rw (s .overlap i h, s .supersede i h, renamed-is us un (g .ours) (g .theirs) (g .names) (g .own-names) i h) refl
-          ∙ sym (marks-at (regionsOf us) (regionsOf un) 0 (regionsOf us) i (omega arith)
-          ∙ ap (λ (k : ℕ). markOf (overlapped (regionsOf us) k) (renamed (regionsOf us) (regionsOf un) (getD (regionsOf us) i noRegion)) (superseded (regionsOf us) (regionsOf un) k)) z)
+          ∙ sym (mark-at (regionsOf us) (regionsOf un) i (omega arith))
 
 -- ---- the promise
 

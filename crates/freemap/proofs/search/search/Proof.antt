@@ -4,7 +4,7 @@ use mathlib.Core.Path.{ap, sym, refl, _∙_}
 use native.Mathlib.Omega.{arith}
 use borrow.Author.Needs.{needs}
 use borrow.Author.Tests.{ltb-true, ltb-false}
-use Rattle.freemap.specs.Fit.{found}
+use Rattle.numbers.specs.Refusals.{accepted}
 use Rattle.numbers.specs.Sums.{top}
 use Rattle.freemap.proofs.Fitting.{Searching, search-begins, search-found, search-on, search-ends, all-skipped}
 use Rattle.freemap.proofs.search.search.Statement.{statement}
@@ -21,7 +21,7 @@ passes-requires : tie.Need-passes-requires Inv-loop μ-loop
 passes-requires c κs = search needs
 
 returns : tie.Need-returns Inv-loop μ-loop
-returns c = let t : top < c .before .before .before .args .skew + c .before .before .before .args .mask = ltb-true _ _ (sym (c .before .passes .ensures) ∙ c .if1 .taken) in ap found (sym (all-skipped _ _ _ (omega arith) _))
+returns c = let t : top < c .before .before .before .args .skew + c .before .before .before .args .mask = ltb-true _ _ (sym (c .before .passes .ensures) ∙ c .if1 .taken) in ap accepted (sym (all-skipped _ _ _ (omega arith) _))
 
 loop-holds : tie.Need-loop-holds Inv-loop μ-loop
 loop-holds c = search-begins _ _ _ _
@@ -51,7 +51,7 @@ fit-in-requires : tie.Need-fit-in-requires Inv-loop μ-loop
 fit-in-requires c κs = (c .before .before .before .before .before .before .before .pre, ltb-false _ _ (sym (c .before .before .before .before .before .passes .ensures) ∙ c .before .before .before .before .if1 .left))
 
 returns-2 : tie.Need-returns-2 Inv-loop μ-loop
-returns-2 c = ap found (sym (search-found (c .before .before .before .before .before .loop .inv) (half-in _ _ _ refl (c .before .before .before .before .loop-test .taken)) _ (sym (c .before .fit-in .ensures) ∙ simp (c .if2 .taken))))
+returns-2 c = ap accepted (sym (search-found (c .before .before .before .before .before .loop .inv) (half-in _ _ _ refl (c .before .before .before .before .loop-test .taken)) _ (sym (c .before .fit-in .ensures) ∙ simp (c .if2 .taken))))
 
 add-i : tie.Need-add-i Inv-loop μ-loop
 add-i c = omega (arith, c .before .before .before .before .loop-test .taken)
@@ -63,7 +63,7 @@ loop-again : tie.Need-loop-again Inv-loop μ-loop
 loop-again c = search-on (c .before .before .before .before .before .loop .inv) (half-in _ _ _ refl (c .before .before .before .before .loop-test .taken)) (sym (c .before .fit-in .ensures) ∙ simp (c .if2 .left))
 
 returns-3 : tie.Need-returns-3 Inv-loop μ-loop
-returns-3 c = ap found (sym (search-ends (c .before .loop .inv) (half-out _ _ _ refl (c .loop-test .left))))
+returns-3 c = ap accepted (sym (search-ends (c .before .loop .inv) (half-out _ _ _ refl (c .loop-test .left))))
 
 pub search-spec : {M : Type 1} → statement M
 search-spec =
