@@ -20,10 +20,7 @@ use Rattle.settle.specs.Settle.{anyOther, overlapped, superseded, keep, same, h
 use Rattle.sort.specs.Sort.{insert, sorted}
 
 pub marks : Marks
-unfolding alignUp upTo isPower pairs maximal ahead covered any has endOf tailOf complementFails flat sorted insert precedes
-unfolding fitRefusal tooFew first refuse answer firstFit allows skipped placeIn settleFails lentFails sum tooLong
-unfolding regions piecesFrom marksFrom overlapped superseded renamed anyOther keep same highest meets
-unfolding runsFail notEmpty joins joinedTo joined runsFrom fromRefusal extentsFail passesTop eachExtent tooFewPlaces runsTo locateRefusal lastAt
+unfolding alignUp upTo isPower pairs maximal ahead covered any has endOf tailOf complementFails flat sorted insert precedes fitRefusal tooFew first refuse answer firstFit allows skipped placeIn settleFails lentFails sum tooLong regions piecesFrom marksFrom overlapped superseded renamed anyOther keep same highest meets runsFail notEmpty joins joinedTo joined runsFrom fromRefusal extentsFail passesTop eachExtent tooFewPlaces runsTo locateRefusal lastAt
 marks =
     record {
       p1 = refl;
