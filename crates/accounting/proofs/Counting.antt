@@ -111,10 +111,10 @@ module _ {all rest : List Usage} {a : Accounting} (g : Counting all rest a) wher
 
 -- ---- the lists from i on
 
-at-front : (l : List ℕ) (i : ℕ) → getD (drop i l) 0 0 ≡ getD l i 0
+pub at-front : (l : List ℕ) (i : ℕ) → getD (drop i l) 0 0 ≡ getD l i 0
 at-front l i = let e : i + 0 ≡ i = omega arith in getD-drop i l 0 0 ∙ ap (λ (j : ℕ). getD l j 0) e
 
-from-here : (l : List ℕ) (i : ℕ) → i < length l → drop i l ≡ getD l i 0 ∷ drop (i + 1) l
+pub from-here : (l : List ℕ) (i : ℕ) → i < length l → drop i l ≡ getD l i 0 ∷ drop (i + 1) l
 from-here l i h = let e : suc i ≡ i + 1 = omega arith in drop-cons l i 0 h ∙ ap (λ (j : ℕ). getD l i 0 ∷ drop j l) e
 
 module _ (ts ls ps : List ℕ) (i : ℕ) where

@@ -9,9 +9,10 @@ use accounting::Posted;
 use accounting::TagSpace;
 ghost use mathlib.Core.Path.{_≡_};
 ghost use lib.ListN.{getD};
-ghost use Rattle.accounting.specs.Entries.{Counts, noTags, usages, readyUsages, differ, extentLen, addedLen, removedLen};
+ghost use Rattle.accounting.specs.Entries.{Counts, noTags, usage, usages, readyUsages, differ, extentLen, addedLen, removedLen};
 ghost use Rattle.accounting.specs.Row.{blank, addUsage, removeUsage, reserve, unreserve, setCap, fits};
 ghost use Rattle.accounting.specs.Table.{Valid, Posts, Asks, accountsOf, tableOf, onRow, reserving, unreserving, rowOf};
+ghost use Rattle.exports.specs.Each.{ruleOf, PostsEach, questions, AsksEach};
 ghost use Rattle.exports.specs.Flat.{flatOf};
 ghost use Rattle.exports.specs.Accounts.{capFrom, rowFrom, accountsFrom, flatRow, flatAccounts, flatPosted, flatAsked, FlatPosts, FlatAsks};
 
@@ -361,87 +362,81 @@ pub extern "C" fn fundravai_row_fits(flat: FlatRow, extra: u64) -> bool
     row.fits(extra)
 }
 
-// The next three are for the benchmark, where putting the accounts into flat numbers and back would
-// cost more than a posting. They promise nothing but to end without a trap.
+// The next two are for the benchmark, where putting the accounts into flat numbers and back would cost
+// more than a posting.
 
-// Adds each usage in turn, up to the first that is refused, and hands back what that one does.
+// Adds or removes each usage in turn; hands back what the last posting does.
 #[no_mangle]
-pub extern "C" fn fundravai_accounts_add_usage_each(
+pub extern "C" fn fundravai_accounts_post_each(
     flat: FlatAccounting,
+    remove: bool,
     tags: &[u32],
     logical: &[u64],
     physical: &[u64],
-) -> FlatPosted {
+) -> FlatPosted
+    ensures { λ r. ⌜ PostsEach (differ (now (tags .entry)) (now (logical .entry)) (now (physical .entry))) remove (usages (now (tags .entry)) (now (logical .entry)) (now (physical .entry))) flat (accountsFrom flat) r ⌝ }
+{
+    if tags.len() != logical.len() {
+        return FlatPosted {
+            refusal: 1,
+            accounts: flat,
+        };
+    }
+    if tags.len() != physical.len() {
+        return FlatPosted {
+            refusal: 1,
+            accounts: flat,
+        };
+    }
     let mut accounts = accounts_from(flat);
+    let mut refusal = 0;
     let mut i = 0;
-    while i < tags.len() && i < logical.len() && i < physical.len() {
-        let posted = accounts.add_usage(tags[i], logical[i], physical[i]);
-        let refusal = posted.refusal;
+    while i < tags.len() {
+        let posted = post(accounts, remove, tags[i], logical[i], physical[i]);
+        refusal = posted.refusal;
         accounts = posted.accounts;
-        if refusal != 0 {
-            return flat_posted(Posted { refusal, accounts });
-        }
         i += 1;
     }
-    flat_posted(Posted {
-        refusal: 0,
-        accounts,
-    })
+    flat_posted(Posted { refusal, accounts })
 }
 
-// Removes each usage in turn, in the same way.
-#[no_mangle]
-pub extern "C" fn fundravai_accounts_remove_usage_each(
-    flat: FlatAccounting,
-    tags: &[u32],
-    logical: &[u64],
-    physical: &[u64],
-) -> FlatPosted {
-    let mut accounts = accounts_from(flat);
-    let mut i = 0;
-    while i < tags.len() && i < logical.len() && i < physical.len() {
-        let posted = accounts.remove_usage(tags[i], logical[i], physical[i]);
-        let refusal = posted.refusal;
-        accounts = posted.accounts;
-        if refusal != 0 {
-            return flat_posted(Posted { refusal, accounts });
-        }
-        i += 1;
+fn post(accounts: Accounting, remove: bool, tag: u32, logical: u64, physical: u64) -> Posted
+    ensures { λ r. ⌜ Posts accounts (onRow tag (ruleOf remove (usage tag logical physical))) r ⌝ }
+{
+    if remove {
+        return accounts.remove_usage(tag, logical, physical);
     }
-    flat_posted(Posted {
-        refusal: 0,
-        accounts,
-    })
+    accounts.add_usage(tag, logical, physical)
 }
 
-// Asks for each tag in turn, up to the first that is refused; answers that refusal, and how many fit.
+// Asks for each tag in turn; answers the last refusal, and how many fit.
 #[no_mangle]
 pub extern "C" fn fundravai_accounts_fits_each(
     flat: FlatAccounting,
     tags: &[u32],
     extra: &[u64],
-) -> FlatAnswer {
+) -> FlatAnswer
+    ensures { λ r. ⌜ AsksEach (differ (now (tags .entry)) (now (extra .entry)) (now (extra .entry))) (questions (now (tags .entry)) (now (extra .entry))) (accountsFrom flat) r ⌝ }
+{
+    if tags.len() != extra.len() {
+        return FlatAnswer {
+            refusal: 1,
+            value: 0,
+        };
+    }
     let mut accounts = accounts_from(flat);
+    let mut refusal = 0;
     let mut fit = 0;
     let mut i = 0;
-    while i < tags.len() && i < extra.len() {
+    while i < tags.len() {
         let asked = accounts.fits(tags[i], extra[i]);
-        let refusal = asked.refusal;
-        let within = asked.fits;
+        refusal = asked.refusal;
         accounts = asked.accounts;
-        if refusal != 0 {
-            return FlatAnswer {
-                refusal,
-                value: fit,
-            };
-        }
-        if within {
-            fit += 1;
-        }
+        fit += asked.fits as u64;
         i += 1;
     }
     FlatAnswer {
-        refusal: 0,
+        refusal,
         value: fit,
     }
 }

@@ -9,7 +9,7 @@ ghost use mathlib.Core.Path.{_≡_};
 ghost use Rattle.freemap.specs.Bytes.{freeOf};
 ghost use Rattle.freemap.specs.Fit.{fitOf};
 ghost use Rattle.freemap.specs.Gaps.{Complemented};
-ghost use Rattle.exports.specs.Flat.{freeFrom, amountFrom, FreeHandedOut, FlatComplemented, FlatFit};
+ghost use Rattle.exports.specs.Flat.{flatAnswer, freeFrom, FreeHandedOut, FlatComplemented, FlatFit};
 
 // Writes a map into the lent numbers; answers document 01's refusal, 0 where there is none.
 fn hand_out(answer: Complement, count: &mut usize, tail: &mut u64) -> u64
@@ -68,7 +68,7 @@ pub extern "C" fn fundravai_first_fit(
 
 #[no_mangle]
 pub extern "C" fn fundravai_free_bytes(count: usize, tail: u64, gaps: &[u64]) -> FlatAnswer
-    ensures { λ r. ⌜ amountFrom r ≡ freeOf (freeFrom count tail) (now (gaps .entry)) ⌝ }
+    ensures { λ r. ⌜ r ≡ flatAnswer (freeOf (freeFrom count tail) (now (gaps .entry))) ⌝ }
 {
     let map = FreeMap { count, tail };
     let sum = map.free_bytes(gaps);

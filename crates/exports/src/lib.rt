@@ -1,5 +1,5 @@
 // Flat functions for compare/, which links them as a static library. Nothing is decided here: each
-// calls a leaf, and its contract is the leaf's.
+// calls a leaf, or one after another, and promises what the leaf does of flat numbers.
 mod accounts;
 mod free;
 mod map;
@@ -11,13 +11,14 @@ use footprint::Header;
 use footprint::Limits;
 use footprint::RegionKind;
 use footprint::RunCount;
+use footprint::Verdict;
 ghost use mathlib.Core.Path.{_≡_};
 ghost use Rattle.align.specs.Align.{alignUp};
 ghost use Rattle.sort.specs.Sort.{Sorted};
 ghost use Rattle.numbers.specs.Range.{range};
-ghost use Rattle.footprint.specs.Footprint.{maxExtents};
-ghost use Rattle.footprint.specs.Runs.{Listed};
-ghost use Rattle.exports.specs.Flat.{flatOf, kindOf, limitsOf, entryOf, headerOf, countFrom, FlatChecked};
+ghost use Rattle.footprint.specs.Footprint.{maxExtents, answerOf, Filled};
+ghost use Rattle.footprint.specs.Runs.{Listed, countOf};
+ghost use Rattle.exports.specs.Flat.{flatOf, flatAnswer, kindOf, limitsOf, entryOf, headerOf, Told, FlatTold, FlatAnswers, FlatChecked};
 
 // A number or none: some is 1 or 0, and value is 0 where there is none.
 #[repr(C)]
@@ -26,7 +27,7 @@ pub struct FlatOption {
     pub value: u64,
 }
 
-// A refusal, 0 where there is none, and a value, 0 where there is a refusal.
+// Document 01's refusal and 0, or 0 and a value.
 #[repr(C)]
 pub struct FlatAnswer {
     pub refusal: u64,
@@ -71,6 +72,104 @@ fn kind_of(code: u8) -> RegionKind
     RegionKind::Append
 }
 
+fn entry_of(
+    kind: u8,
+    flags: u8,
+    count: u16,
+    a: u64,
+    b: u64,
+    start: u64,
+    end: u64,
+    size: u64,
+    capacity: u64,
+    seq: u64,
+) -> Entry
+    ensures { λ r. ⌜ r ≡ entryOf kind flags count a b start end size capacity seq ⌝ }
+{
+    let entry_kind = kind_of(kind);
+    Entry {
+        kind: entry_kind,
+        flags,
+        extent_count: count,
+        header_a: a,
+        header_b: b,
+        span_start: start,
+        span_end: end,
+        data_size: size,
+        capacity,
+        footprint_seq: seq,
+    }
+}
+
+fn header_of(id: u64, kind: u8, flags: u8, ready: bool, log2: u8, count: u16) -> Header
+    ensures { λ r. ⌜ r ≡ headerOf id kind flags ready log2 count ⌝ }
+{
+    let header_kind = kind_of(kind);
+    Header {
+        region_id: id,
+        kind: header_kind,
+        flags,
+        ready,
+        log2_block: log2,
+        extent_count: count,
+    }
+}
+
+// Writes a verdict's extra into the lent numbers; answers document 01's refusal, 0 where there is none.
+fn tell(verdict: Verdict, offset: &mut u64, len: &mut u64) -> u64
+    ensures { λ r. ⌜ Told (answerOf verdict) r (range (now (offset .entry)) (now (len .entry))) (range (now (offset .exit)) (now (len .exit))) ⌝ }
+{
+    match verdict {
+        Verdict::Usable => 0,
+        Verdict::Ahead(o, l) => {
+            *offset = o;
+            *len = l;
+            0
+        }
+        Verdict::Refused(number) => number,
+    }
+}
+
+#[no_mangle]
+pub extern "C" fn fundravai_fill_footprint(
+    log2: u8,
+    table: u64,
+    file: u64,
+    id: u64,
+    kind: u8,
+    flags: u8,
+    count: u16,
+    a: u64,
+    b: u64,
+    start: u64,
+    end: u64,
+    size: u64,
+    capacity: u64,
+    seq: u64,
+    hid: u64,
+    hkind: u8,
+    hflags: u8,
+    ready: bool,
+    hlog2: u8,
+    hcount: u16,
+    extents: &[u64],
+    scratch: &mut [u64],
+    offset: &mut u64,
+    len: &mut u64,
+) -> u64
+    ensures { λ r. ⌜ FlatTold (Filled (limitsOf log2 table file) id (entryOf kind flags count a b start end size capacity seq) (headerOf hid hkind hflags ready hlog2 hcount) (now (extents .entry)) (now (scratch .entry)) (now (scratch .exit))) r (range (now (offset .entry)) (now (len .entry))) (range (now (offset .exit)) (now (len .exit))) ⌝ }
+{
+    let limits = Limits {
+        log2_block: log2,
+        table_end: table,
+        file_len: file,
+    };
+    let entry = entry_of(kind, flags, count, a, b, start, end, size, capacity, seq);
+    let header = header_of(hid, hkind, hflags, ready, hlog2, hcount);
+    let verdict = footprint::fill_footprint(limits, id, entry, header, extents, scratch);
+    tell(verdict, offset, len)
+}
+
 // The number of slots in the part that is handed back.
 #[no_mangle]
 pub extern "C" fn fundravai_check_region(
@@ -107,28 +206,8 @@ pub extern "C" fn fundravai_check_region(
         table_end: table,
         file_len: file,
     };
-    let entry_kind = kind_of(kind);
-    let entry = Entry {
-        kind: entry_kind,
-        flags,
-        extent_count: count,
-        header_a: a,
-        header_b: b,
-        span_start: start,
-        span_end: end,
-        data_size: size,
-        capacity,
-        footprint_seq: seq,
-    };
-    let header_kind = kind_of(hkind);
-    let header = Header {
-        region_id: hid,
-        kind: header_kind,
-        flags: hflags,
-        ready,
-        log2_block: hlog2,
-        extent_count: hcount,
-    };
+    let entry = entry_of(kind, flags, count, a, b, start, end, size, capacity, seq);
+    let header = header_of(hid, hkind, hflags, ready, hlog2, hcount);
     let part = footprint::check_region(
         limits,
         id,
@@ -143,16 +222,9 @@ pub extern "C" fn fundravai_check_region(
     part.len()
 }
 
-#[no_mangle]
-pub extern "C" fn fundravai_runs(
-    extents: &[u64],
-    starts: &mut [u64],
-    files: &mut [u64],
-    lens: &mut [u64],
-) -> FlatAnswer
-    ensures { λ r. ⌜ Listed (now (extents .entry)) (now (starts .entry)) (now (starts .exit)) (now (files .entry)) (now (files .exit)) (now (lens .entry)) (now (lens .exit)) (countFrom r) ⌝ }
+pub(crate) fn flat_count(count: RunCount) -> FlatAnswer
+    ensures { λ r. ⌜ r ≡ flatAnswer (countOf count) ⌝ }
 {
-    let count = footprint::runs(extents, starts, files, lens);
     match count {
         RunCount::Runs(n) => FlatAnswer {
             refusal: 0,
@@ -163,4 +235,17 @@ pub extern "C" fn fundravai_runs(
             value: 0,
         },
     }
+}
+
+#[no_mangle]
+pub extern "C" fn fundravai_runs(
+    extents: &[u64],
+    starts: &mut [u64],
+    files: &mut [u64],
+    lens: &mut [u64],
+) -> FlatAnswer
+    ensures { λ r. ⌜ FlatAnswers (Listed (now (extents .entry)) (now (starts .entry)) (now (starts .exit)) (now (files .entry)) (now (files .exit)) (now (lens .entry)) (now (lens .exit))) r ⌝ }
+{
+    let count = footprint::runs(extents, starts, files, lens);
+    flat_count(count)
 }

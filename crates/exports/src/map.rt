@@ -1,13 +1,15 @@
 // Flat functions of the region map. A map is five numbers: the file offset of its first run, the
 // data's length, the capacity, the runs after the first, and the room for them.
 use crate::FlatAnswer;
-use footprint::RunCount;
+use crate::flat_count;
 use regionmap::Located;
 use regionmap::Mapped;
 use regionmap::RegionMap;
 ghost use mathlib.Core.Path.{_≡_};
 ghost use Rattle.regionmap.specs.Map.{Made, Roomed, Published, Extended, Written};
-ghost use Rattle.exports.specs.Flat.{countFrom, mapFrom, HandedOut, FlatMapped, FlatPlace};
+ghost use Rattle.numbers.specs.Pairs.{pairs};
+ghost use Rattle.exports.specs.Each.{Chain, Extend, extending, Publish, publishing, LocatedEach};
+ghost use Rattle.exports.specs.Flat.{mapFrom, HandedOut, FlatAnswers, FlatMapped, FlatPlace};
 
 // Writes a map into the lent numbers; answers document 01's refusal, 0 where there is none.
 fn hand_out(
@@ -167,7 +169,7 @@ pub extern "C" fn fundravai_map_runs(
     files: &[u64],
     out: &mut [u64],
 ) -> FlatAnswer
-    ensures { λ r. ⌜ Written (mapFrom first published capacity count room) (now (starts .entry)) (now (files .entry)) (now (out .entry)) (now (out .exit)) (countFrom r) ⌝ }
+    ensures { λ r. ⌜ FlatAnswers (Written (mapFrom first published capacity count room) (now (starts .entry)) (now (files .entry)) (now (out .entry)) (now (out .exit))) r ⌝ }
 {
     let map = RegionMap {
         first,
@@ -177,22 +179,12 @@ pub extern "C" fn fundravai_map_runs(
         room,
     };
     let runs = map.runs(starts, files, out);
-    match runs {
-        RunCount::Runs(k) => FlatAnswer {
-            refusal: 0,
-            value: k as u64,
-        },
-        RunCount::Refused(number) => FlatAnswer {
-            refusal: number,
-            value: 0,
-        },
-    }
+    flat_count(runs)
 }
 
-// The next three are for the benchmark, where a call from Rust would cost more than the work. They
-// promise nothing but to end without a trap.
+// The next three are for the benchmark, where a call from Rust would cost more than the work.
 
-// Locates each position, and answers how many were located.
+// Locates each position, and answers how many were located; none where bytes has too few places.
 #[no_mangle]
 pub extern "C" fn fundravai_map_locate_each(
     first: u64,
@@ -205,7 +197,9 @@ pub extern "C" fn fundravai_map_locate_each(
     positions: &[u64],
     n: u64,
     bytes: &mut [u64],
-) -> u64 {
+) -> u64
+    ensures { λ r. ⌜ LocatedEach (mapFrom first published capacity count room) (now (starts .entry)) (now (files .entry)) (now (positions .entry)) n (now (bytes .entry)) (now (bytes .exit)) r ⌝ }
+{
     let map = RegionMap {
         first,
         len: published,
@@ -213,12 +207,12 @@ pub extern "C" fn fundravai_map_locate_each(
         count,
         room,
     };
+    if bytes.len() < positions.len() {
+        return 0;
+    }
     let mut located = 0;
     let mut i = 0;
     while i < positions.len() {
-        if i >= bytes.len() {
-            return located;
-        }
         let place = map.locate(starts, files, positions[i], n);
         i += 1;
         match place {
@@ -243,7 +237,9 @@ pub extern "C" fn fundravai_map_extend_each(
     capacity: &mut u64,
     count: &mut usize,
     room: &mut usize,
-) -> u64 {
+) -> u64
+    ensures { λ r. ⌜ Chain Extend (pairs (now (extents .entry))) (extending (mapFrom (now (first .entry)) (now (published .entry)) (now (capacity .entry)) (now (count .entry)) (now (room .entry))) (now (starts .entry)) (now (files .entry)) 0) (extending (mapFrom (now (first .exit)) (now (published .exit)) (now (capacity .exit)) (now (count .exit)) (now (room .exit))) (now (starts .exit)) (now (files .exit)) r) ⌝ }
+{
     let mut map = RegionMap {
         first: *first,
         len: *published,
@@ -277,7 +273,9 @@ pub extern "C" fn fundravai_map_publish_each(
     capacity: &mut u64,
     count: &mut usize,
     room: &mut usize,
-) -> u64 {
+) -> u64
+    ensures { λ r. ⌜ Chain Publish (now (lens .entry)) (publishing (mapFrom (now (first .entry)) (now (published .entry)) (now (capacity .entry)) (now (count .entry)) (now (room .entry))) 0) (publishing (mapFrom (now (first .exit)) (now (published .exit)) (now (capacity .exit)) (now (count .exit)) (now (room .exit))) r) ⌝ }
+{
     let mut map = RegionMap {
         first: *first,
         len: *published,

@@ -171,17 +171,37 @@ module _ (lim : Limits) (id : ℕ) (e : Entry) (h : Header) (xs : List ℕ) (pla
       let g = r .agreed in
       none-first _ (
         pass-none 1 _ (lists-fine lim e h xs places (r .lists)),
-        (pass-none 2 _ (logs-fine lim e h xs (r .logs)),
-        (pass-none 4 _ (entry-fine lim e xs small (r .entry) (r .disjoint)),
-        (pass-none 5 _ (ap not (eq-eqb _ _ (g .number))),
-        (pass-none 6 _ (ap not (eq-eqb _ _ (ap kindCode (g .kind)))),
-        (pass-none 7 _ (ap not (eq-eqb _ _ (g .flags))),
-        (pass-none 8 _ (ap not (g .ready)),
-        (pass-none 9 _ (count-fine id e h g),
-        (pass-none 10 _ (ap not (eq-eqb _ _ (g .multiple))),
-        (each-none (outside lim e) 0 (committed e xs) (all-imp (Inside lim e) (λ (x : Range). outside lim e x ≡ false) (inside-fine lim e xs small (r .entry)) (committed e xs) (r .inside)) (omega (arith, r .capacity)),
-        (pass-none 12 _ (ap not (eq-eqb _ _ (r .capacity))),
-        (pass-none 13 _ (disjoint-overlaps (ranges lim e xs) (r .disjoint)), tt)))))))))))
+        (
+          pass-none 2 _ (logs-fine lim e h xs (r .logs)),
+          (
+            pass-none 4 _ (entry-fine lim e xs small (r .entry) (r .disjoint)),
+            (
+              pass-none 5 _ (ap not (eq-eqb _ _ (g .number))),
+              (
+                pass-none 6 _ (ap not (eq-eqb _ _ (ap kindCode (g .kind)))),
+                (
+                  pass-none 7 _ (ap not (eq-eqb _ _ (g .flags))),
+                  (
+                    pass-none 8 _ (ap not (g .ready)),
+                    (
+                      pass-none 9 _ (count-fine id e h g),
+                      (
+                        pass-none 10 _ (ap not (eq-eqb _ _ (g .multiple))),
+                        (
+                          each-none (outside lim e) 0 (committed e xs) (all-imp (Inside lim e) (λ (x : Range). outside lim e x ≡ false) (inside-fine lim e xs small (r .entry)) (committed e xs) (r .inside)) (omega (arith, r .capacity)),
+                          (
+                            pass-none 12 _ (ap not (eq-eqb _ _ (r .capacity))),
+                            (pass-none 13 _ (disjoint-overlaps (ranges lim e xs) (r .disjoint)), tt),
+                          ),
+                        ),
+                      ),
+                    ),
+                  ),
+                ),
+              ),
+            ),
+          ),
+        ),
       )
 
   -- ---- when the refusal is 1, and when 2
@@ -193,9 +213,28 @@ module _ (lim : Limits) (id : ℕ) (e : Entry) (h : Header) (xs : List ℕ) (pla
   later-high =
       first-high 4 later (
         refuse-high 4 4 _ (omega arith),
-        (refuse-high 4 5 _ (omega arith), (refuse-high 4 6 _ (omega arith), (refuse-high 4 7 _ (omega arith), (refuse-high 4 8 _ (omega arith), (refuse-high 4 9 _ (omega arith), (refuse-high 4 10 _ (omega arith),
-        (⊎-elim (λ z. inl z) (λ l. inr (omega arith)) (each-high (outside lim e) 0 (committed e xs)),
-        (refuse-high 4 12 _ (omega arith), (refuse-high 4 13 _ (omega arith), tt)))))))))
+        (
+          refuse-high 4 5 _ (omega arith),
+          (
+            refuse-high 4 6 _ (omega arith),
+            (
+              refuse-high 4 7 _ (omega arith),
+              (
+                refuse-high 4 8 _ (omega arith),
+                (
+                  refuse-high 4 9 _ (omega arith),
+                  (
+                    refuse-high 4 10 _ (omega arith),
+                    (
+                      ⊎-elim (λ z. inl z) (λ l. inr (omega arith)) (each-high (outside lim e) 0 (committed e xs)),
+                      (refuse-high 4 12 _ (omega arith), (refuse-high 4 13 _ (omega arith), tt)),
+                    ),
+                  ),
+                ),
+              ),
+            ),
+          ),
+        ),
       )
 
   pub refused-1 : listsFail lim e h xs places ≡ true → refusalOf lim id e h xs places ≡ 1

@@ -33,9 +33,13 @@ module _ (m : Placement) (xs : List Range) (l : Lays m xs) where
   extend-goes f n ss fs t h e c r =
       none-first _ (
         pass-none 1 _ t,
-        (pass-none 11 _ (simp (ne-eqb n 0 (λ z. omega arith), le-ltb top (f + n) e)),
-        (pass-none 12 _ (le-ltb _ _ c),
-        (pass-none 19 _ (simp (le-ltb (m .room) (length (m .runs)) (omega (arith, runs-most, r)), and-false)), tt)))
+        (
+          pass-none 11 _ (simp (ne-eqb n 0 (λ z. omega arith), le-ltb top (f + n) e)),
+          (
+            pass-none 12 _ (le-ltb _ _ c),
+            (pass-none 19 _ (simp (le-ltb (m .room) (length (m .runs)) (omega (arith, runs-most, r)), and-false)), tt),
+          ),
+        ),
       )
 
   -- ---- locate

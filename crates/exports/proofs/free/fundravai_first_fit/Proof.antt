@@ -1,13 +1,17 @@
 -- `exports::free::fundravai_first_fit` meets its contract: each arm is a case of `placeOf`.
-use mathlib.Core.Path.{_≡_, sym, ap, _∙_}
 use borrow.Author.Needs.{needs}
+use mathlib.Core.Path.{_≡_, ap, sym, _∙_}
 use Rattle.exports.specs.Flat.{FlatFit, flatOf}
-use Rattle.freemap.specs.Fit.{Place, placeOf}
+use Rattle.freemap.specs.Fit.{placeOf}
+use Prim.Native.Nat.{ℕ}
+use mathlib.Core.Option.{Option, none}
+use Rattle.numbers.specs.Refusals.{Answer, numberOf, valueOr}
+use borrow.Author.Needs.{needs}
 use Rattle.exports.proofs.free.fundravai_first_fit.Statement.{statement}
 use Rattle.exports.proofs.free.fundravai_first_fit.Tie as tie
 
-flat : {p q : Place} → p ≡ q → FlatFit q (p .number) (flatOf (p .at))
-flat e = record { number = ap (λ (w : Place). w .number) e; place = ap (λ (w : Place). flatOf (w .at)) e }
+flat : {p q : Answer (Option ℕ)} → p ≡ q → FlatFit q (numberOf p) (flatOf (valueOr none p))
+flat e = record { number = ap numberOf e; place = ap (λ (w : Answer (Option ℕ)). flatOf (valueOr none w)) e }
 
 first-fit-requires : tie.Need-first-fit-requires
 first-fit-requires c κs = search needs

@@ -1,20 +1,24 @@
--- `exports::map::fundravai_map_extend_each` is safe and ends: no more are accepted than asked for.
-use Prim.Native.Nat.{_-_, _/_, _≤_}
-use mathlib.Core.Path.{_≡_, refl, _∙_}
-use native.Mathlib.Omega.{arith}
-use lib.ListN.{length}
+-- `exports::map::fundravai_map_extend_each` meets its contract: each turn is one call.
 use borrow.Author.Needs.{needs}
+use native.Mathlib.Omega.{arith}
+use Prim.Native.Nat.{_+_, _-_, _/_, _≤_, _<_}
+use mathlib.Core.Path.{_≡_, refl, _∙_}
+use lib.ListN.{length, drop, drop-of-length-le}
+use Rattle.numbers.specs.Pairs.{pairs}
+use Rattle.numbers.proofs.Pairs.{length-pairs, pair-next}
+use Rattle.exports.specs.Each.{Extend, extending}
+use Rattle.exports.proofs.Chaining.{Going, going-begins, going-on, going-ends}
 use Rattle.exports.proofs.map.fundravai_map_extend_each.Statement.{statement}
 use Rattle.exports.proofs.map.fundravai_map_extend_each.Tie as tie
 
 abbrev Inv-loop : tie.InvT-loop
-Inv-loop extents starts₀ files₀ first published capacity count room map₀ accepted₀ i₀ starts files map accepted i = (i ≤ length extents / 2) × (accepted ≤ i) × (length starts ≡ length starts₀) × (length files ≡ length files₀)
+Inv-loop extents starts₀ files₀ first published capacity count room map₀ accepted₀ i₀ starts files map accepted i = (i ≤ length extents / 2) × (accepted ≤ i) × (length starts ≡ length starts₀) × (length files ≡ length files₀) × Going Extend (pairs extents) (extending map₀ starts₀ files₀ 0) (drop i (pairs extents)) (extending map starts files accepted)
 
 abbrev μ-loop : tie.MeasureT-loop
 μ-loop extents starts₀ files₀ first published capacity count room map₀ accepted₀ i₀ starts files map accepted i = length extents / 2 - i
 
 loop-holds : tie.Need-loop-holds Inv-loop μ-loop
-loop-holds c = (omega arith, omega arith, refl, refl)
+loop-holds c = (omega arith, omega arith, refl, refl, going-begins Extend _ _ _ refl)
 
 mul-extend : tie.Need-mul-extend Inv-loop μ-loop
 mul-extend c = omega (arith, c .loop-test .taken)
@@ -53,7 +57,7 @@ loop-less : tie.Need-loop-less Inv-loop μ-loop
 loop-less c = omega (arith, c .before .before .before .before .before .before .before .before .before .before .before .before .loop-test .taken)
 
 loop-again : tie.Need-loop-again Inv-loop μ-loop
-loop-again c = let v = c .before .before .before .before .before .before .before .before .before .before .before .before .before .loop .inv in (omega (arith, c .before .before .before .before .before .before .before .before .before .before .before .before .loop-test .taken), omega (arith, v .1), (c .before .before .before .before .before .before .before .extend .kept .1 .1 .1 .0) ∙ v .2, (c .before .before .before .before .before .before .before .extend .kept .1 .1 .1 .1 .0) ∙ v .3)
+loop-again c = let v = c .before .before .before .before .before .before .before .before .before .before .before .before .before .loop .inv in (omega (arith, c .before .before .before .before .before .before .before .before .before .before .before .before .loop-test .taken), omega (arith, v .1), c .before .before .before .before .before .before .before .extend .kept .1 .1 .1 .0 ∙ v .2, c .before .before .before .before .before .before .before .extend .kept .1 .1 .1 .1 .0 ∙ v .3, going-on Extend _ _ (v .4) (pair-next (c .before .before .before .before .before .before .before .before .before .before .before .before .before .before .before .before .before .before .before .before .before .before .args .extents .now) _ (let l = length-pairs (c .before .before .before .before .before .before .before .before .before .before .before .before .before .before .before .before .before .before .before .before .before .before .args .extents .now) in omega (arith, l, c .before .before .before .before .before .before .before .before .before .before .before .before .loop-test .taken))) (record { answer = _; promise = c .before .before .before .before .before .before .before .extend .ensures; map = rw (c .before .mapped .given .1) refl; count = rw (c .before .mapped .given .1) refl }))
 
 enum-told : tie.Need-enum-told Inv-loop μ-loop
 enum-told c = search needs
@@ -62,7 +66,7 @@ loop-less-2 : tie.Need-loop-less-2 Inv-loop μ-loop
 loop-less-2 c = omega (arith, c .before .before .before .before .before .before .before .before .before .before .before .loop-test .taken)
 
 loop-again-2 : tie.Need-loop-again-2 Inv-loop μ-loop
-loop-again-2 c = let v = c .before .before .before .before .before .before .before .before .before .before .before .before .loop .inv in (omega (arith, c .before .before .before .before .before .before .before .before .before .before .before .loop-test .taken), omega (arith, v .1), (c .before .before .before .before .before .before .extend .kept .1 .1 .1 .0) ∙ v .2, (c .before .before .before .before .before .before .extend .kept .1 .1 .1 .1 .0) ∙ v .3)
+loop-again-2 c = let v = c .before .before .before .before .before .before .before .before .before .before .before .before .loop .inv in (omega (arith, c .before .before .before .before .before .before .before .before .before .before .before .loop-test .taken), omega (arith, v .1), c .before .before .before .before .before .before .extend .kept .1 .1 .1 .0 ∙ v .2, c .before .before .before .before .before .before .extend .kept .1 .1 .1 .1 .0 ∙ v .3, going-on Extend _ _ (v .4) (pair-next (c .before .before .before .before .before .before .before .before .before .before .before .before .before .before .before .before .before .before .before .before .before .args .extents .now) _ (let l = length-pairs (c .before .before .before .before .before .before .before .before .before .before .before .before .before .before .before .before .before .before .before .before .before .args .extents .now) in omega (arith, l, c .before .before .before .before .before .before .before .before .before .before .before .loop-test .taken))) (record { answer = _; promise = c .before .before .before .before .before .before .extend .ensures; map = rw (c .enum-told .given .1) refl; count = rw (c .enum-told .given .1) (omega arith) }))
 
 hand-out-requires : tie.Need-hand-out-requires Inv-loop μ-loop
 hand-out-requires c κs = search needs
@@ -74,7 +78,7 @@ same-length-2 : tie.Need-same-length-2 Inv-loop μ-loop
 same-length-2 c = c .before .before .before .before .before .before .before .loop .inv .3
 
 returns : tie.Need-returns Inv-loop μ-loop
-returns c = search needs
+returns c = let l = length-pairs (c .before .before .before .before .before .before .before .before .before .before .before .before .before .before .before .before .args .extents .now) in rw (c .hand-out .ensures .map) (going-ends Extend _ _ (c .before .before .before .before .before .before .before .loop .inv .4) (drop-of-length-le (pairs (c .before .before .before .before .before .before .before .before .before .before .before .before .before .before .before .before .args .extents .now)) {i = c .before .before .before .before .before .before .before .loop .i} (omega (arith, l, c .before .before .before .before .before .before .loop-test .left))))
 
 pub fundravai-map-extend-each-spec : {M : Type 1} → statement M
 fundravai-map-extend-each-spec =

@@ -1,4 +1,5 @@
 -- `exports::map::fundravai_map_locate` meets its contract: each arm is a case of `placeOf`.
+use borrow.Author.Needs.{needs}
 use mathlib.Core.Path.{refl}
 use borrow.Author.Needs.{needs}
 use Rattle.exports.proofs.map.fundravai_map_locate.Statement.{statement}
@@ -14,10 +15,10 @@ enum-known-place-2 : tie.Need-enum-known-place-2
 enum-known-place-2 c = search needs
 
 returns : tie.Need-returns
-returns c = record { place = _; promise = c .before .before .before .locate .ensures; number = rw (c .before .place .given .1) refl; byte = rw (c .before .place .given .1) refl }
+returns c = record { place = _; promise = c .before .before .before .locate .ensures; flat = rw (c .before .place .given .1) refl }
 
 returns-2 : tie.Need-returns-2
-returns-2 c = record { place = _; promise = c .before .before .before .locate .ensures; number = rw (c .before .place2 .given .1) refl; byte = rw (c .before .place2 .given .1) refl }
+returns-2 c = record { place = _; promise = c .before .before .before .locate .ensures; flat = rw (c .before .place2 .given .1) refl }
 
 pub fundravai-map-locate-spec : {M : Type 1} → statement M
 fundravai-map-locate-spec =

@@ -1,0 +1,94 @@
+-- `exports::accounts::fundravai_accounts_post_each` meets its contract: each turn is one posting.
+use borrow.Author.Needs.{needs}
+use native.Mathlib.Omega.{arith}
+use Prim.Native.Nat.{_+_, _-_, _≤_}
+use mathlib.Core.Path.{_≡_, refl, ap, sym, _∙_}
+use lib.ListN.{length, drop}
+use borrow.Author.Tests.{eq-eqb, ne-eqb}
+use Rattle.accounting.specs.Entries.{usages, differ}
+use Rattle.accounting.proofs.Counting.{usages-next, usages-end}
+use Rattle.numbers.proofs.Cases.{clash}
+use Rattle.exports.specs.Each.{Post, posted}
+use Rattle.exports.proofs.Chaining.{Going, going-begins, going-on, going-ends}
+use Rattle.exports.proofs.accounts.fundravai_accounts_post_each.Statement.{statement}
+use Rattle.exports.proofs.accounts.fundravai_accounts_post_each.Tie as tie
+
+abbrev Inv-loop : tie.InvT-loop
+Inv-loop remove tags logical physical accounts₀ refusal₀ i₀ accounts refusal i = (i ≤ length tags) × Going (Post remove) (usages tags logical physical) (posted 0 accounts₀) (usages (drop i tags) (drop i logical) (drop i physical)) (posted refusal accounts)
+
+abbrev μ-loop : tie.MeasureT-loop
+μ-loop remove tags logical physical accounts₀ refusal₀ i₀ accounts refusal i = length tags - i
+
+returns : tie.Need-returns Inv-loop μ-loop
+unfolding differ
+returns c = record { refused = λ e. refl; each = λ e. clash (simp (ne-eqb _ _ (c .if1 .taken))) e }
+
+returns-2 : tie.Need-returns-2 Inv-loop μ-loop
+unfolding differ
+returns-2 c = record { refused = λ e. refl; each = λ e. clash (simp (eq-eqb _ _ (c .before .if1 .left), ne-eqb _ _ (c .if2 .taken))) e }
+
+accounts-from-requires : tie.Need-accounts-from-requires Inv-loop μ-loop
+accounts-from-requires c κs = search needs
+
+loop-holds : tie.Need-loop-holds Inv-loop μ-loop
+loop-holds c = (omega arith, going-begins (Post (c .before .before .before .before .before .before .args .remove)) _ _ _ refl)
+
+mul-post : tie.Need-mul-post Inv-loop μ-loop
+mul-post c = omega (arith, c .loop-test .taken)
+
+shared-slice-read-post : tie.Need-shared-slice-read-post Inv-loop μ-loop
+shared-slice-read-post c = omega (arith, c .before .loop-test .taken, c .before .before .before .before .before .if1 .left, c .before .before .before .before .if2 .left)
+
+mul-post-2 : tie.Need-mul-post-2 Inv-loop μ-loop
+mul-post-2 c = omega (arith, c .before .loop-test .taken)
+
+shared-slice-read-post-2 : tie.Need-shared-slice-read-post-2 Inv-loop μ-loop
+shared-slice-read-post-2 c = omega (arith, c .before .before .loop-test .taken, c .before .before .before .before .before .before .if1 .left, c .before .before .before .before .before .if2 .left)
+
+mul-post-3 : tie.Need-mul-post-3 Inv-loop μ-loop
+mul-post-3 c = omega (arith, c .before .before .loop-test .taken)
+
+shared-slice-read-post-3 : tie.Need-shared-slice-read-post-3 Inv-loop μ-loop
+shared-slice-read-post-3 c = omega (arith, c .before .before .before .loop-test .taken, c .before .before .before .before .before .before .before .if1 .left, c .before .before .before .before .before .before .if2 .left)
+
+post-requires : tie.Need-post-requires Inv-loop μ-loop
+post-requires c κs = search needs
+
+add-i : tie.Need-add-i Inv-loop μ-loop
+add-i c = omega (arith, c .before .before .before .before .before .loop-test .taken)
+
+loop-less : tie.Need-loop-less Inv-loop μ-loop
+loop-less c = omega (arith, c .before .before .before .before .before .loop-test .taken)
+
+loop-again : tie.Need-loop-again Inv-loop μ-loop
+loop-again c = let v = c .before .before .before .before .before .before .loop .inv in (omega (arith, c .before .before .before .before .before .loop-test .taken), going-on (Post (c .before .before .before .before .before .before .before .before .before .before .before .before .before .args .remove)) _ _ (v .1) (usages-next _ _ _ _ (c .before .before .before .before .before .loop-test .taken)) (c .before .post .ensures))
+
+flat-posted-requires : tie.Need-flat-posted-requires Inv-loop μ-loop
+flat-posted-requires c κs = search needs
+
+returns-3 : tie.Need-returns-3 Inv-loop μ-loop
+unfolding differ
+returns-3 c = record { refused = λ e. clash e (simp (eq-eqb _ _ (c .before .before .before .before .before .if1 .left), eq-eqb _ _ (c .before .before .before .before .if2 .left))); each = λ e. record { posted = posted (c .before .before .loop .refusal) (c .before .before .loop .accounts); promise = rw (← c .before .before .before .accounts-from .ensures) (going-ends (Post (c .before .before .before .before .before .before .before .before .before .args .remove)) _ _ (c .before .before .loop .inv .1) (usages-end _ _ _ _ (c .before .loop-test .left))); flat = c .flat-posted .ensures } }
+
+pub fundravai-accounts-post-each-spec : {M : Type 1} → statement M
+fundravai-accounts-post-each-spec =
+    tie.close
+    (tie.spec
+    Inv-loop
+    μ-loop
+    returns
+    returns-2
+    accounts-from-requires
+    loop-holds
+    mul-post
+    shared-slice-read-post
+    mul-post-2
+    shared-slice-read-post-2
+    mul-post-3
+    shared-slice-read-post-3
+    post-requires
+    add-i
+    loop-less
+    loop-again
+    flat-posted-requires
+    returns-3)
