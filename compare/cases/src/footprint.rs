@@ -22,7 +22,7 @@ use smaller::smallest;
 #[derive(Debug, PartialEq)]
 struct Answer {
     refusal: u64,
-    part: usize,
+    part: Vec<u64>,
     extra: [u64; 2],
     scratch: Vec<u64>,
 }
@@ -140,7 +140,7 @@ fn by_rust(case: &Case, scratch: &[u64]) -> (Result<Footprint, MetaError>, Vec<(
 fn due(case: &Case, extra: [u64; 2], scratch: &[u64]) -> Answer {
     let refused = |refusal, scratch: &[u64]| Answer {
         refusal,
-        part: 0,
+        part: Vec::new(),
         extra,
         scratch: scratch.to_vec(),
     };
@@ -155,7 +155,7 @@ fn due(case: &Case, extra: [u64; 2], scratch: &[u64]) -> Answer {
     match answer {
         Ok(footprint) => Answer {
             refusal: 0,
-            part: 2 * footprint.ranges,
+            part: left[..2 * footprint.ranges].to_vec(),
             extra: footprint.extra.map_or(extra, |e| [e.0, e.1]),
             scratch: left,
         },
@@ -167,13 +167,23 @@ fn due(case: &Case, extra: [u64; 2], scratch: &[u64]) -> Answer {
     }
 }
 
-fn by_ours(case: &Case, mut extra: [u64; 2], scratch: &[u64]) -> Answer {
+/// Scratch by `fill_footprint`, which promises every slot, the part by `check_region`.
+fn by_ours(case: &Case, extra: [u64; 2], scratch: &[u64]) -> Answer {
     let mut lent = Lent::new(scratch);
-    let (refusal, part) = ours::check_region(&case.record, &case.extents, lent.list(), &mut extra);
+    let mut filled = extra;
+    let refusal = ours::fill_footprint(&case.record, &case.extents, lent.list(), &mut filled);
+    let mut again = Lent::new(scratch);
+    let mut handed = extra;
+    let (number, part) = ours::check_region(&case.record, &case.extents, again.list(), &mut handed);
+    assert_eq!(
+        (number, handed),
+        (refusal, filled),
+        "check_region and fill_footprint differ on {case:?}"
+    );
     Answer {
         refusal,
-        part,
-        extra,
+        part: again.back()[..part].to_vec(),
+        extra: filled,
         scratch: lent.back(),
     }
 }
@@ -328,7 +338,7 @@ fn line(case: &Case, answer: &Answer) -> String {
         case.scratch,
         answer.refusal,
         words(&answer.extra),
-        answer.part,
+        answer.part.len(),
         words(&answer.scratch)
     )
 }

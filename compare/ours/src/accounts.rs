@@ -112,17 +112,9 @@ unsafe extern "C" {
         physical: *const u64,
         physical_len: usize,
     ) -> Posted;
-    fn fundravai_accounts_add_usage_each(
+    fn fundravai_accounts_post_each(
         a: Accounts,
-        tags: *const u32,
-        tags_len: usize,
-        logical: *const u64,
-        logical_len: usize,
-        physical: *const u64,
-        physical_len: usize,
-    ) -> Posted;
-    fn fundravai_accounts_remove_usage_each(
-        a: Accounts,
+        remove: bool,
         tags: *const u32,
         tags_len: usize,
         logical: *const u64,
@@ -188,11 +180,12 @@ pub fn from_usage(u: Usages) -> Posted {
     }
 }
 
-/// Adds each usage in turn, up to the first that is refused.
-pub fn add_usage_each(a: Accounts, u: Usages) -> Posted {
+/// Adds or removes each usage in turn; what the last posting hands back.
+pub fn post_each(a: Accounts, remove: bool, u: Usages) -> Posted {
     unsafe {
-        fundravai_accounts_add_usage_each(
+        fundravai_accounts_post_each(
             a,
+            remove,
             u.tags.as_ptr(),
             u.tags.len(),
             u.logical.as_ptr(),
@@ -203,22 +196,7 @@ pub fn add_usage_each(a: Accounts, u: Usages) -> Posted {
     }
 }
 
-/// Removes each usage in turn, up to the first that is refused.
-pub fn remove_usage_each(a: Accounts, u: Usages) -> Posted {
-    unsafe {
-        fundravai_accounts_remove_usage_each(
-            a,
-            u.tags.as_ptr(),
-            u.tags.len(),
-            u.logical.as_ptr(),
-            u.logical.len(),
-            u.physical.as_ptr(),
-            u.physical.len(),
-        )
-    }
-}
-
-/// Asks for each tag in turn, up to the first that is refused: the refusal, and how many fit.
+/// Asks for each tag in turn: the last refusal, and how many fit.
 pub fn fits_each(a: Accounts, tags: &[u32], extra: &[u64]) -> (u64, u64) {
     let r = unsafe {
         fundravai_accounts_fits_each(a, tags.as_ptr(), tags.len(), extra.as_ptr(), extra.len())

@@ -21,6 +21,34 @@ unsafe extern "C" {
     fn fundravai_align_up(value: u64, align: u64) -> FlatOption;
     fn fundravai_sort_pairs(s: *mut u64, len: usize) -> u64;
     fn fundravai_max_extents(log2_block: u8) -> usize;
+    fn fundravai_fill_footprint(
+        log2_block: u8,
+        table_end: u64,
+        file_len: u64,
+        region_id: u64,
+        kind: u8,
+        flags: u8,
+        extent_count: u16,
+        header_a: u64,
+        header_b: u64,
+        span_start: u64,
+        span_end: u64,
+        data_size: u64,
+        capacity: u64,
+        footprint_seq: u64,
+        header_region_id: u64,
+        header_kind: u8,
+        header_flags: u8,
+        header_ready: bool,
+        header_log2_block: u8,
+        header_extent_count: u16,
+        extents: *const u64,
+        extents_len: usize,
+        scratch: *mut u64,
+        scratch_len: usize,
+        extra_offset: *mut u64,
+        extra_len: *mut u64,
+    ) -> u64;
     fn fundravai_check_region(
         log2_block: u8,
         table_end: u64,
@@ -103,8 +131,48 @@ pub struct Record {
     pub header_extent_count: u16,
 }
 
+/// Answers the refusal, 0 if accepted. An extra extent's offset and length go to `extra`.
+pub fn fill_footprint(
+    record: &Record,
+    extents: &[u64],
+    scratch: &mut [u64],
+    extra: &mut [u64; 2],
+) -> u64 {
+    let [extra_offset, extra_len] = extra;
+    unsafe {
+        fundravai_fill_footprint(
+            record.log2_block,
+            record.table_end,
+            record.file_len,
+            record.region_id,
+            record.kind,
+            record.flags,
+            record.extent_count,
+            record.header_a,
+            record.header_b,
+            record.span_start,
+            record.span_end,
+            record.data_size,
+            record.capacity,
+            record.footprint_seq,
+            record.header_region_id,
+            record.header_kind,
+            record.header_flags,
+            record.header_ready,
+            record.header_log2_block,
+            record.header_extent_count,
+            extents.as_ptr(),
+            extents.len(),
+            scratch.as_mut_ptr(),
+            scratch.len(),
+            extra_offset,
+            extra_len,
+        )
+    }
+}
+
 /// Answers the refusal, 0 if accepted, and how many numbers at the front of scratch are handed
-/// back. An extra extent's offset and length go to `extra`.
+/// back. An extra extent's offset and length go to `extra`. What is behind the part is not promised.
 pub fn check_region(
     record: &Record,
     extents: &[u64],

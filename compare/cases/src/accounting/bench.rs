@@ -5,7 +5,7 @@ use super::sides::flat;
 use crate::random::Random;
 use crate::table::{median, row};
 use oracle::accounts::Accounts as Rust;
-use ours::accounts::{self, Accounts, MOST, Posted, Usages};
+use ours::accounts::{self, MOST, Usages};
 use std::hint::black_box;
 
 /// So many usages of these tags in no order, small enough that no sum stops.
@@ -41,11 +41,11 @@ impl Drawn {
     }
 }
 
-/// A posting to accounts, by the Rust and by our loop over all usages.
-type Postings = (fn(&mut Rust, u32, u64, u64), fn(Accounts, Usages) -> Posted);
+/// A posting to accounts by the Rust, and whether it removes.
+type Postings = (fn(&mut Rust, u32, u64, u64), bool);
 
 /// One of so many postings in a row to accounts of 96 tags.
-fn postings(name: &str, (by_rust, by_ours): Postings, start: &[(u32, u64, u64)], drawn: &Drawn) {
+fn postings(name: &str, (by_rust, remove): Postings, start: &[(u32, u64, u64)], drawn: &Drawn) {
     let triples = drawn.triples();
     let mut after = flat(&mut Rust::from_usage(start));
     let begun = after;
@@ -63,7 +63,7 @@ fn postings(name: &str, (by_rust, by_ours): Postings, start: &[(u32, u64, u64)],
         21,
         || (),
         |()| {
-            let posted = by_ours(begun, drawn.lists());
+            let posted = accounts::post_each(begun, remove, drawn.lists());
             assert!(posted.refusal == 0 && posted.accounts == after);
         },
     );
@@ -127,8 +127,8 @@ pub fn bench(random: &mut Random) {
     let start: Vec<_> = pool.iter().map(|&tag| (tag, 1 << 60, 1 << 60)).collect();
     // so many that no predictor learns them
     let drawn = Drawn::new(1 << 16, &pool, random);
-    let add: Postings = (Rust::add_usage, accounts::add_usage_each);
-    let remove: Postings = (Rust::remove_usage, accounts::remove_usage_each);
+    let add: Postings = (Rust::add_usage, false);
+    let remove: Postings = (Rust::remove_usage, true);
     postings("add_usage", add, &start, &drawn);
     postings("remove_usage", remove, &start, &drawn);
     fits(&start, &drawn);

@@ -4,24 +4,20 @@ use super::draw::tags;
 use crate::random::Random;
 use ours::accounts::{self, Accounts, MOST, Posted, Usages};
 
-/// The accounts after each usage by single calls, up to the first that is refused.
+/// What the last of single calls hands back, one for each usage.
 fn single(
     a: Accounts,
     u: Usages,
     call: extern "C" fn(Accounts, u32, u64, u64) -> Posted,
 ) -> Posted {
-    let mut accounts = a;
-    for (i, &tag) in u.tags.iter().enumerate() {
-        let posted = call(accounts, tag, u.logical[i], u.physical[i]);
-        if posted.refusal != 0 {
-            return posted;
-        }
-        accounts = posted.accounts;
-    }
-    Posted {
+    let mut posted = Posted {
         refusal: 0,
-        accounts,
+        accounts: a,
+    };
+    for (i, &tag) in u.tags.iter().enumerate() {
+        posted = call(posted.accounts, tag, u.logical[i], u.physical[i]);
     }
+    posted
 }
 
 /// How many calls were made, or the first that does something else.
@@ -41,12 +37,12 @@ pub fn compare(random: &mut Random) -> Result<usize, String> {
             physical: &physical,
         };
         let added = single(accounts::empty(), usages, accounts::add_usage);
-        if accounts::add_usage_each(accounts::empty(), usages) != added {
-            return Err(format!("add_usage_each of {some:?} differs"));
+        if accounts::post_each(accounts::empty(), false, usages) != added {
+            return Err(format!("post_each, adding {some:?}, differs"));
         }
         let removed = single(added.accounts, usages, accounts::remove_usage);
-        if accounts::remove_usage_each(added.accounts, usages) != removed {
-            return Err(format!("remove_usage_each of {some:?} differs"));
+        if accounts::post_each(added.accounts, true, usages) != removed {
+            return Err(format!("post_each, removing {some:?}, differs"));
         }
         let mut capped = added.accounts;
         for row in &mut capped.rows[..capped.count] {
@@ -57,12 +53,23 @@ pub fn compare(random: &mut Random) -> Result<usize, String> {
         let mut after = capped;
         for (&tag, &extra) in some.iter().zip(&extra) {
             let r = accounts::fits(after, tag, extra);
-            if r.refusal != 0 {
-                asked.0 = r.refusal;
-                break;
-            }
             after = r.accounts;
-            asked.1 += u64::from(r.fits);
+            asked = (r.refusal, asked.1 + u64::from(r.fits));
+        }
+        if n > 0 {
+            let short = Usages {
+                logical: &logical[1..],
+                ..usages
+            };
+            let refused = Posted {
+                refusal: 1,
+                accounts: capped,
+            };
+            if accounts::post_each(capped, false, short) != refused
+                || accounts::fits_each(capped, &some, &extra[1..]) != (1, 0)
+            {
+                return Err(format!("lists of {n} and {} are taken", n - 1));
+            }
         }
         let found = accounts::fits_each(capped, &some, &extra);
         if found != asked {

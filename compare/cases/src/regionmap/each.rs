@@ -58,19 +58,23 @@ fn publishes(map: Map, random: &mut Random) -> bool {
     accepted == ours::map::publish_each(&lens, &mut each) && each == single
 }
 
-/// All bytes are published. Each position is below the data's end, so that all are located for which
-/// there is a place.
+/// All bytes are published. Each position is below the data's end, so that all are located, or none
+/// where there are too few places for their bytes.
 fn locates(mut map: Map, [starts, files]: &[Vec<u64>; 2], random: &mut Random) -> bool {
     ours::map::publish_len(map.capacity, &mut map);
     let many = if map.data == 0 { 0 } else { random.below(12) };
     let positions: Vec<u64> = (0..many).map(|_| random.next() % map.data).collect();
     let mut ats: Vec<u64> = (8_000_000..).take(random.below(16) as usize).collect();
     let mut lent = Lent::new(&ats);
-    for (at, &pos) in ats.iter_mut().zip(&positions) {
-        *at = ours::map::locate(&map, starts, files, pos, 1).1;
+    let mut due = 0;
+    if positions.len() <= ats.len() {
+        due = positions.len() as u64;
+        for (at, &pos) in ats.iter_mut().zip(&positions) {
+            *at = ours::map::locate(&map, starts, files, pos, 1).1;
+        }
     }
     let located = ours::map::locate_each(&map, starts, files, &positions, 1, lent.list());
-    located == positions.len().min(ats.len()) as u64 && lent.back() == ats
+    located == due && lent.back() == ats
 }
 
 /// How many calls were made, or the first that does something else.

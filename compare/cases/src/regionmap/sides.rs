@@ -137,7 +137,7 @@ impl Sides {
                 }
                 0
             }
-            Call::WithRoom { asked } => u64::from(asked > MOST || fewer_than(asked)),
+            Call::WithRoom { asked } => u64::from(asked > MOST || fewer_than(asked.max(map.room))),
             Call::PublishLen { .. } => 0,
             Call::Extend { .. } | Call::Locate { .. } if fewer_than(map.room) => 1,
             Call::Extend { file, n } if n == 0 || passes(file, n) => 11,
