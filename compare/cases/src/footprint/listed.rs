@@ -58,7 +58,7 @@ type Change = fn(&mut Case);
 pub fn compare() -> Result<usize, String> {
     let headers = [(0, 4096), (4096, 4096)];
     // the change, what the Rust answers and has at the front of scratch then, our refusal
-    let rows: [(Change, &str, &[(u64, u64)], u64); 14] = [
+    let rows: [(Change, &str, &[(u64, u64)], u64); 16] = [
         (|_| (), "accepted", &headers, 0),
         (|c| c.record.capacity = 1, "capacity", &headers, 12),
         (
@@ -105,6 +105,21 @@ pub fn compare() -> Result<usize, String> {
             |c| c.record.header_b = 0,
             "Overlap",
             &[(0, 4096), (0, 4096)],
+            4,
+        ),
+        (
+            |c| c.record.header_b = 8192,
+            "accepted",
+            &[(0, 4096), (8192, 4096)],
+            4,
+        ),
+        (
+            |c| {
+                c.record.span_start = 1;
+                c.record.span_end = 0;
+            },
+            "accepted",
+            &headers,
             4,
         ),
         (|c| c.record.data_size = 4096, "accepted", &headers, 4),

@@ -76,6 +76,7 @@ pub fn compare() -> Result<usize, String> {
         (none, from_extents(&[(0, 1)], 2), 1, Err(23), 23),
         (none, Call::WithRoom { asked: many }, many, Ok((0, 0)), 1),
         (none, Call::WithRoom { asked: 1 }, 0, Ok((0, 0)), 1),
+        (roomy, Call::WithRoom { asked: 0 }, 0, Ok((0, 0)), 1),
         (none, extend(0, 0), 0, Ok((0, 0)), 11),
         (roomy, extend(1, 0), 1, Ok((0, 1)), 11),
         (none, extend(1, 0), 0, Err(19), 11),
@@ -89,6 +90,8 @@ pub fn compare() -> Result<usize, String> {
         (one, Call::Locate { pos: 1, n: MAX }, 0, Err(23), 23),
         (two, Call::Locate { pos: 0, n: 2 }, 1, Err(24), 24),
         (roomy, Call::Locate { pos: 0, n: 0 }, 0, Ok((0, 0)), 1),
+        (roomy, Call::Extents { out: 2 }, 0, Ok((0, 0)), 1),
+        (none, Call::Extents { out: 1 }, 0, Ok((0, 0)), 1),
     ];
     for (start, call, places, left, refusal) in &rows {
         let found = asked(*start, call, *places)?;
