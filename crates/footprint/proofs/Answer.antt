@@ -10,7 +10,7 @@ use lib.ListN.{length, take, drop, getD, drop-of-length-le}
 use lib.Pow.{pow-pos}
 use lib.Seq.{drop-cons, length-take-le, take-at}
 use borrow.Author.Tests.{ne-eqb, eqb-true}
-use Rattle.footprint.specs.Footprint.{outside, answerOf, checkOf, extraOf, Checked, committed, ranges, footprintOf, overlaps, entryTests, headerTests, extentTests, overlapTests, refusalOf, Filled}
+use Rattle.footprint.specs.Footprint.{outside, answerOf, checkOf, Checked, committed, ranges, footprintOf, overlaps, entryTests, headerTests, extentTests, overlapTests, refusalOf, Filled}
 use Rattle.footprint.specs.Inner.{beforeLast, neighboursMeet, LaidOut, Reported}
 use Rattle.footprint.specs.declared.Entry.{Entry}
 use Rattle.footprint.specs.declared.Header.{Header}

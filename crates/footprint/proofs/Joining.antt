@@ -13,8 +13,8 @@ use Rattle.footprint.specs.declared.RunCount.the-variants.{Runs, Refused
 use Rattle.numbers.specs.Lists.{written}
 use Rattle.numbers.specs.Pairs.{pairs}
 use Rattle.numbers.specs.Range.{Range, range, blank}
-use Rattle.numbers.specs.Sums.{top, stop}
 use Rattle.numbers.specs.Refusals.{accepted}
+use Rattle.numbers.specs.Sums.{top, stop}
 use Rattle.numbers.proofs.Answers.{one-passes, one-fails}
 use Rattle.numbers.proofs.Cases.{and-true}
 use Rattle.numbers.proofs.Lists.{written-length, written-next}

@@ -1,32 +1,30 @@
 -- An accepted region by facts about its records and ranges, in both directions; and when the refusal is 1, and when 2.
-use Prim.Native.Nat.{ℕ, suc, _+_, _*_, _%_, _^_, _≤_, _<_, min, max}
+use Prim.Native.Nat.{ℕ, _+_, _%_, _^_, _≤_, _<_, max}
 use mathlib.Core.Bool.{true, false, not, or-true}
 use mathlib.Core.List.{List, [], _∷_, _++_}
 use mathlib.Core.Logic.{_⊎_, inl, inr, ⊎-elim}
 use mathlib.Core.Path.{_≡_, refl, ap, sym, _∙_}
 use native.Mathlib.Omega.{arith}
 use lib.Dec.{eqb}
-use lib.ListN.{length}
 use lib.Pow.{pow-pos}
 use borrow.Author.Tests.{eq-eqb, ne-eqb, eqb-true, eqb-false, le-ltb, ltb-true, not-true, not-false}
-use Rattle.footprint.specs.Footprint.{maxExtents, blockOf, kindCode, committed, ranges, listsFail, logsFail, spanFails, blockFails, near, entryFails, countFails, outside, overlaps, headerTests, entryTests, extentTests, overlapTests, refusalOf}
+use Rattle.footprint.specs.Footprint.{blockOf, kindCode, committed, ranges, listsFail, logsFail, spanFails, blockFails, near, entryFails, countFails, outside, overlaps, headerTests, entryTests, extentTests, overlapTests, refusalOf}
 use Rattle.footprint.specs.declared.Entry.{Entry}
 use Rattle.footprint.specs.declared.Header.{Header}
 use Rattle.footprint.specs.declared.Limits.{Limits}
 use Rattle.footprint.specs.declared.RegionKind.{RegionKind}
-use Rattle.footprint.specs.declared.RegionKind.the-variants.{Append, Page, Slot}
-use Rattle.numbers.specs.Lists.{All, any}
-use Rattle.numbers.specs.Pairs.{isOdd, pairs}
+use Rattle.footprint.specs.declared.RegionKind.the-variants.{Slot}
+use Rattle.numbers.specs.Lists.{All}
 use Rattle.numbers.specs.Range.{Range, range, Meet, meets, Disjoint, total}
 use Rattle.numbers.specs.Refusals.{first, refuse}
 use Rattle.numbers.specs.Sums.{top}
 use Rattle.footprint.proofs.Answer.{accepted-passed, accepted-apart, none-failed}
 use Rattle.footprint.proofs.Overlap.{overlaps-false}
-use Rattle.footprint.proofs.Passed.{Lists, Logs, Block, Entries, Inside, kinds-tell, count-pass}
+use Rattle.footprint.proofs.Passed.{Lists, Logs, Block, Entries, Inside, kinds-tell}
 use Rattle.numbers.proofs.Cases.{cases, never, and-true, or-true as one-true}
 use Rattle.numbers.proofs.Disjoint.{at-disjoint}
-use Rattle.numbers.proofs.Lists.{all-imp, any-false, of-none}
-use Rattle.numbers.proofs.Ranges.{end-exact, meets-true, meets-false}
+use Rattle.numbers.proofs.Lists.{all-imp, of-none}
+use Rattle.numbers.proofs.Ranges.{end-exact, meets-true}
 use Rattle.numbers.proofs.Refusals.{NoneBelow, first-none, first-parts, first-go, none-first, pass-none, refuse-none, refuse-high, first-high, each-high, each-none}
 
 -- 5 to 10: header and entry agree

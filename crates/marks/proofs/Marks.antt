@@ -1,5 +1,4 @@
 -- P1 to P12 by computation.
-use Prim.Native.Nat.{ℕ}
 use mathlib.Core.Path.{refl}
 use native.Mathlib.Omega.{arith}
 use Rattle.align.specs.Align.{upTo, alignUp}

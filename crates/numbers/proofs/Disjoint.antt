@@ -1,14 +1,14 @@
 -- Lists of ranges of which no two meet: at their places, in parts, with one more.
 use Prim.Native.Nat.{ℕ, zero, suc, _<_}
 use mathlib.Core.List.{List, [], _∷_, _++_}
-use mathlib.Core.Path.{_≡_, refl, ap}
+use mathlib.Core.Path.{_≡_}
 use native.Mathlib.Nat.{le-of-suc-le-suc, not-suc-le-zero}
 use native.Mathlib.Omega.{arith}
 use lib.ListN.{length, getD}
 use Rattle.numbers.specs.Lists.{All}
 use Rattle.numbers.specs.Range.{Range, blank, Meet, Disjoint}
 use Rattle.numbers.proofs.Cases.{by-lt}
-use Rattle.numbers.proofs.Lists.{all-append, all-left, all-right, all-at, all-of, all-imp}
+use Rattle.numbers.proofs.Lists.{all-append, all-left, all-right, all-at, all-of}
 use Rattle.numbers.proofs.Ranges.{meet-sym}
 
 -- r meets none of a list.

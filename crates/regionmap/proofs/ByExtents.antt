@@ -12,7 +12,7 @@ use Rattle.footprint.specs.Runs.{Run, blankRun, runsOf, runByte, byteOf, Holds}
 use Rattle.numbers.specs.Range.{Range, total}
 use Rattle.numbers.specs.Refusals.{refuse, first, Answer, accepted, answer}
 use Rattle.numbers.specs.Sums.{top}
-use Rattle.regionmap.specs.Map.{Placement, EndToEnd, Sound, lastAt, Lays, tooFew, passesTop, fileEnd, extendRefusal, runOf, locateRefusal, locateOf}
+use Rattle.regionmap.specs.Map.{Placement, EndToEnd, Sound, lastAt, Lays, tooFew, passesTop, extendRefusal, runOf, locateRefusal, locateOf}
 use Rattle.footprint.proofs.Bytes.{Ends, runs-some, runs-no-touch}
 use Rattle.footprint.proofs.Positions.{InOneRun, in-one-run}
 use Rattle.numbers.proofs.Answers.{answer-value}

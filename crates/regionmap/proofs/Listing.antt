@@ -11,9 +11,9 @@ use Rattle.footprint.specs.declared.RunCount.the-variants.{Runs, Refused}
 use Rattle.numbers.specs.Lists.{written}
 use Rattle.numbers.specs.Pairs.{pairs, flat}
 use Rattle.numbers.specs.Range.{range}
+use Rattle.numbers.specs.Refusals.{accepted}
 use Rattle.regionmap.specs.Map.{runsTo, placementOf, rangesOf, runsFail, Written}
 use Rattle.regionmap.specs.declared.RegionMap.{RegionMap}
-use Rattle.numbers.specs.Refusals.{accepted}
 use Rattle.numbers.proofs.Answers.{one-passes, one-fails}
 use Rattle.numbers.proofs.Lists.{written-length}
 use Rattle.numbers.proofs.Pairs.{pair-in, pair-written, length-flat}

@@ -30,10 +30,10 @@ part-scratch-start : tie.Need-part-scratch-start
 part-scratch-start c = search needs
 
 part-scratch-end : tie.Need-part-scratch-end
-part-scratch-end c = let h = room (c .before .before .before .before .before .before .before .before .before .before .before .before .args .limits) (c .before .before .before .before .before .before .before .before .before .before .before .before .args .id) (c .before .before .before .before .before .before .before .before .before .before .before .before .args .entry) (c .before .before .before .before .before .before .before .before .before .before .before .before .args .header) (c .before .before .before .before .before .before .before .before .before .before .before .before .args .extents .now) (c .before .before .before .before .before .before .before .before .before .before .before .before .args .scratch .now) (c .before .before .before .before .before .before .before .before .fill-footprint .ensures) (c .before .before .report .ensures) (c .before .if1 .taken) in omega (arith, c .before .before .before .before .before .before .before .before .fill-footprint .kept .1 .1 .1 .1 .1 .0)
+part-scratch-end c = let h = room _ _ _ _ _ _ (c .before .before .before .before .before .before .before .before .fill-footprint .ensures) (c .before .before .report .ensures) (c .before .if1 .taken) in omega (arith, c .before .before .before .before .before .before .before .before .fill-footprint .kept .1 .1 .1 .1 .1 .0)
 
 returns : tie.Need-returns
-returns c = (part (c .before .before .before .before .before .before .before .before .before .before .before .before .before .args .limits) (c .before .before .before .before .before .before .before .before .before .before .before .before .before .args .id) (c .before .before .before .before .before .before .before .before .before .before .before .before .before .args .entry) (c .before .before .before .before .before .before .before .before .before .before .before .before .before .args .header) (c .before .before .before .before .before .before .before .before .before .before .before .before .before .args .extents .now) (c .before .before .before .before .before .before .before .before .before .before .before .before .before .args .scratch .now) (c .before .before .before .before .before .before .before .before .before .fill-footprint .ensures) (c .before .before .before .report .ensures) (c .before .before .if1 .taken), ap (λ (o : ℕ). (c .before .before .before .before .before .before .before .before .before .before .before .before .before .args .scratch .ptr .0, o)) (zero-add _))
+returns c = (part _ _ _ _ _ _ (c .before .before .before .before .before .before .before .before .before .fill-footprint .ensures) (c .before .before .before .report .ensures) (c .before .before .if1 .taken), ap (λ (o : ℕ). (c .before .before .before .before .before .before .before .before .before .before .before .before .before .args .scratch .ptr .0, o)) (zero-add _))
 
 sub-result-2 : tie.Need-sub-result-2
 sub-result-2 c = search needs
@@ -45,7 +45,7 @@ part-scratch-end-2 : tie.Need-part-scratch-end-2
 part-scratch-end-2 c = search needs
 
 returns-2 : tie.Need-returns-2
-returns-2 c = (no-part (c .before .before .before .before .before .before .before .before .before .before .before .before .args .limits) (c .before .before .before .before .before .before .before .before .before .before .before .before .args .id) (c .before .before .before .before .before .before .before .before .before .before .before .before .args .entry) (c .before .before .before .before .before .before .before .before .before .before .before .before .args .header) (c .before .before .before .before .before .before .before .before .before .before .before .before .args .extents .now) (c .before .before .before .before .before .before .before .before .before .before .before .before .args .scratch .now) (c .before .before .before .before .before .before .before .before .fill-footprint .ensures) (c .before .before .report .ensures) (c .before .if1 .left), ap (λ (o : ℕ). (c .before .before .before .before .before .before .before .before .before .before .before .before .args .scratch .ptr .0, o)) (zero-add _))
+returns-2 c = (no-part _ _ _ _ _ _ (c .before .before .before .before .before .before .before .before .fill-footprint .ensures) (c .before .before .report .ensures) (c .before .if1 .left), ap (λ (o : ℕ). (c .before .before .before .before .before .before .before .before .before .before .before .before .args .scratch .ptr .0, o)) (zero-add _))
 
 pub check-region-spec : {M : Type 1} → statement M
 check-region-spec =

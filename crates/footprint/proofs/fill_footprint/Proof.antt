@@ -20,13 +20,13 @@ bounded c = let f : Fits w64 (c .args .entry .«span_end») = search needs in om
 ready : (c : tie.Else1) → Passed (c .before .before .before .before .args .limits) (c .before .before .before .before .args .entry) (c .before .before .before .before .args .header) (c .before .before .before .before .args .extents .now) (length (c .before .before .before .before .args .scratch .now))
 ready c =
     let a = c .before .before .before .before .args in
-    all-pass (a .limits) (a .id) (a .entry) (a .header) (a .extents .now) (length (a .scratch .now)) (sym (c .before .refusal-before .ensures) ∙ c .if1 .left)
+    all-pass _ _ _ _ _ (length (a .scratch .now)) (sym (c .before .refusal-before .ensures) ∙ c .if1 .left)
 
 refusal-before-requires : tie.Need-refusal-before-requires
 refusal-before-requires c κs = search needs
 
 returns : tie.Need-returns
-returns c = refused-early (c .before .before .before .before .args .limits) (c .before .before .before .before .args .id) (c .before .before .before .before .args .entry) (c .before .before .before .before .args .header) (c .before .before .before .before .args .extents .now) (c .before .before .before .before .args .scratch .now) (c .before .refusal-before .ensures) (c .if1 .taken)
+returns c = refused-early _ _ _ _ _ _ (c .before .refusal-before .ensures) (c .if1 .taken)
 
 cast-committed : tie.Need-cast-committed
 cast-committed c = search needs
@@ -57,7 +57,7 @@ same-length : tie.Need-same-length
 same-length c = search needs
 
 returns-2 : tie.Need-returns-2
-returns-2 c = refused-last (c .before .before .before .before .before .before .before .before .before .before .args .limits) (c .before .before .before .before .before .before .before .before .before .before .args .id) (c .before .before .before .before .before .before .before .before .before .before .args .entry) (c .before .before .before .before .before .before .before .before .before .before .args .header) (c .before .before .before .before .before .before .before .before .before .before .args .extents .now) (c .before .before .before .before .before .before .before .before .before .before .args .scratch .now) (c .before .before .before .before .before .before .before .refusal-before .ensures) (c .before .before .before .before .before .before .if1 .left) (bounded (c .before .before .before .before .before .before .before .before .before .before)) (c .before .before .before .lay-out .ensures) (c .if2 .taken)
+returns-2 c = refused-last _ _ _ _ _ _ (c .before .before .before .before .before .before .before .refusal-before .ensures) (c .before .before .before .before .before .before .if1 .left) (bounded (c .before .before .before .before .before .before .before .before .before .before)) (c .before .before .before .lay-out .ensures) (c .if2 .taken)
 
 mul-t16 : tie.Need-mul-t16
 mul-t16 c = search needs
@@ -84,13 +84,13 @@ same-length-2 : tie.Need-same-length-2
 same-length-2 c = search needs
 
 returns-3 : tie.Need-returns-3
-returns-3 c = ahead (c .before .before .before .before .before .before .before .before .before .before .before .before .before .before .before .args .limits) (c .before .before .before .before .before .before .before .before .before .before .before .before .before .before .before .args .id) (c .before .before .before .before .before .before .before .before .before .before .before .before .before .before .before .args .entry) (c .before .before .before .before .before .before .before .before .before .before .before .before .before .before .before .args .header) (c .before .before .before .before .before .before .before .before .before .before .before .before .before .before .before .args .extents .now) (c .before .before .before .before .before .before .before .before .before .before .before .before .before .before .before .args .scratch .now) (c .before .before .before .before .before .before .before .before .before .before .before .before .refusal-before .ensures) (c .before .before .before .before .before .before .before .before .before .before .before .if1 .left) (bounded (c .before .before .before .before .before .before .before .before .before .before .before .before .before .before .before)) (c .before .before .before .before .before .before .before .before .lay-out .ensures) (c .before .before .before .before .before .if2 .left) (c .before .before .if3 .taken)
+returns-3 c = ahead _ _ _ _ _ _ (c .before .before .before .before .before .before .before .before .before .before .before .before .refusal-before .ensures) (c .before .before .before .before .before .before .before .before .before .before .before .if1 .left) (bounded (c .before .before .before .before .before .before .before .before .before .before .before .before .before .before .before)) (c .before .before .before .before .before .before .before .before .lay-out .ensures) (c .before .before .before .before .before .if2 .left) (c .before .before .if3 .taken)
 
 same-length-3 : tie.Need-same-length-3
 same-length-3 c = search needs
 
 returns-4 : tie.Need-returns-4
-returns-4 c = usable (c .before .before .before .before .before .before .before .before .before .before .before .before .before .args .limits) (c .before .before .before .before .before .before .before .before .before .before .before .before .before .args .id) (c .before .before .before .before .before .before .before .before .before .before .before .before .before .args .entry) (c .before .before .before .before .before .before .before .before .before .before .before .before .before .args .header) (c .before .before .before .before .before .before .before .before .before .before .before .before .before .args .extents .now) (c .before .before .before .before .before .before .before .before .before .before .before .before .before .args .scratch .now) (c .before .before .before .before .before .before .before .before .before .before .refusal-before .ensures) (c .before .before .before .before .before .before .before .before .before .if1 .left) (bounded (c .before .before .before .before .before .before .before .before .before .before .before .before .before)) (c .before .before .before .before .before .before .lay-out .ensures) (c .before .before .before .if2 .left) (c .if3 .left)
+returns-4 c = usable _ _ _ _ _ _ (c .before .before .before .before .before .before .before .before .before .before .refusal-before .ensures) (c .before .before .before .before .before .before .before .before .before .if1 .left) (bounded (c .before .before .before .before .before .before .before .before .before .before .before .before .before)) (c .before .before .before .before .before .before .lay-out .ensures) (c .before .before .before .if2 .left) (c .if3 .left)
 
 pub fill-footprint-spec : {M : Type 1} → statement M
 fill-footprint-spec =

@@ -14,7 +14,7 @@ use Rattle.numbers.proofs.Refusals.{first-go, first-stop}
 use Rattle.footprint.proofs.refusal_before.Tie as tie
 
 logs : (c : tie.Else2) → Logs (c .before .before .before .before .before .args .limits) (c .before .before .before .before .before .args .header)
-logs c = logs-pass (c .before .before .before .before .before .args .limits) (c .before .before .before .before .before .args .header) (sym (c .before .logs-fail .ensures) ∙ c .if2 .left)
+logs c = logs-pass _ _ (sym (c .before .logs-fail .ensures) ∙ c .if2 .left)
 
 abbrev entry-tests : (c : tie.Else3) → List ℕ
 entry-tests c = let a = c .before .before .before .before .before .before .before .args in entryTests (a .limits) (a .entry) (a .header) (a .extents .now) (a .places)
@@ -64,8 +64,8 @@ returns-4 c = let t = c .before .before in
 
 extents-refusal-requires : tie.Need-extents-refusal-requires
 extents-refusal-requires c κs = let a = c .before .before .before .before .before .before .before .before .before .args in
-    let l = lists-pass (a .limits) (a .entry) (a .header) (a .extents .now) (a .places) (sym (c .before .before .before .before .before .before .before .lists-fail .ensures) ∙ c .before .before .before .before .before .before .if1 .left) in
-    ⊎-elim (λ e. omega (arith, l .listed)) (λ e. omega (arith, l .listed)) (header-count (a .id) (a .entry) (a .header) (header-go c))
+    let l = lists-pass (a .limits) (a .entry) _ _ _ (sym (c .before .before .before .before .before .before .before .lists-fail .ensures) ∙ c .before .before .before .before .before .before .if1 .left) in
+    ⊎-elim (λ e. omega (arith, l .listed)) (λ e. omega (arith, l .listed)) (header-count _ _ (a .header) (header-go c))
 
 returns-5 : tie.Need-returns-5
 unfolding beforeLast

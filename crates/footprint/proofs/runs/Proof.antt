@@ -17,7 +17,7 @@ even c = even-list (c .before .before .before .before .before .args .extents .no
 
 enough : (c : tie.Else4) → runsFail (c .before .before .before .before .before .before .before .before .args .extents .now) (length (c .before .before .before .before .before .before .before .before .args .starts .now)) (length (c .before .before .before .before .before .before .before .before .args .files .now)) (length (c .before .before .before .before .before .before .before .before .args .lens .now)) ≡ false
 unfolding runsFail
-enough c = rw (length-pairs (c .before .before .before .before .before .before .before .before .args .extents .now)) (simp (even (c .before .before .before), le-ltb _ _ (c .before .before .if2 .left), le-ltb _ _ (c .before .if3 .left), le-ltb _ _ (c .if4 .left)))
+enough c = rw (length-pairs _) (simp (even (c .before .before .before), le-ltb _ _ (c .before .before .if2 .left), le-ltb _ _ (c .before .if3 .left), le-ltb _ _ (c .if4 .left)))
 
 returns : tie.Need-returns
 unfolding runsFail

@@ -1,6 +1,4 @@
 -- `numbers::advance` meets its contract: the step is shifted by one bit or by none.
-use mathlib.Core.Bool.{cond}
-use mathlib.Core.Path.{_≡_}
 use native.Mathlib.Omega.{arith}
 use borrow.Author.Needs.{needs}
 use Rattle.numbers.proofs.Halving.{one-bit, advanced}

@@ -23,7 +23,7 @@ empty-requires : tie.Need-empty-requires Inv-loop μ-loop
 empty-requires c κs = search needs
 
 loop-holds : tie.Need-loop-holds Inv-loop μ-loop
-loop-holds c = turn-begins rowFrom (c .before .args .t1 .rows) (c .empty .result .rows) (ap (λ (a : Accounting). length (a .rows)) (c .empty .ensures .0) ∙ empty-long ∙ sym (full (c .before)))
+loop-holds c = turn-begins rowFrom _ _ (ap (λ (a : Accounting). length (a .rows)) (c .empty .ensures .0) ∙ empty-long ∙ sym (full (c .before)))
 
 mul-row : tie.Need-mul-row Inv-loop μ-loop
 mul-row c = omega arith
@@ -47,11 +47,11 @@ loop-less : tie.Need-loop-less Inv-loop μ-loop
 loop-less c = omega arith
 
 loop-again : tie.Need-loop-again Inv-loop μ-loop
-loop-again c = let h = full (c .before .before .before .before .before) in turn-on rowFrom (c .before .before .before .before .before .args .t1 .rows) (c .before .before .before .loop .accounts .rows) (c .before .before .before .loop .i) _ _ (c .row-from .ensures) (omega (arith, h)) (c .before .before .before .loop .inv)
+loop-again c = let h = full (c .before .before .before .before .before) in turn-on rowFrom _ _ _ _ _ (c .row-from .ensures) (omega (arith, h)) (c .before .before .before .loop .inv)
 
 returns : tie.Need-returns Inv-loop μ-loop
 unfolding accountsFrom
-returns c = let h = full (c .before .before .before) in rw (turn-ends rowFrom (c .before .before .before .args .t1 .rows) (c .before .loop .accounts .rows) (c .before .loop .i) (omega (arith, h)) (c .before .loop .inv))
+returns c = let h = full (c .before .before .before) in rw (turn-ends rowFrom _ _ _ (omega (arith, h)) (c .before .loop .inv))
 
 pub accounts-from-spec : {M : Type 1} → statement M
 accounts-from-spec =

@@ -26,7 +26,7 @@ flat-row-requires : tie.Need-flat-row-requires Inv-loop μ-loop
 flat-row-requires c κs = search needs
 
 loop-holds : tie.Need-loop-holds Inv-loop μ-loop
-loop-holds c = (turn-begins flatRow (c .before .before .args .t1 .rows) _ (length-replicate {A = FlatRow} 96 (c .flat-row .result) ∙ sym (full (c .before .before))), refl, refl)
+loop-holds c = (turn-begins flatRow _ _ (length-replicate {A = FlatRow} 96 (c .flat-row .result) ∙ sym (full (c .before .before))), refl, refl)
 
 mul-row : tie.Need-mul-row Inv-loop μ-loop
 mul-row c = omega arith
@@ -50,11 +50,11 @@ loop-less : tie.Need-loop-less Inv-loop μ-loop
 loop-less c = omega arith
 
 loop-again : tie.Need-loop-again Inv-loop μ-loop
-loop-again c = let h = full (c .before .before .before .before .before .before) in let v = c .before .before .before .loop .inv in (turn-on flatRow (c .before .before .before .before .before .before .args .t1 .rows) (c .before .before .before .loop .flat .rows) (c .before .before .before .loop .i) _ _ (c .flat-row2 .ensures) (omega (arith, h)) (v .0), v .1, v .2)
+loop-again c = let h = full (c .before .before .before .before .before .before) in let v = c .before .before .before .loop .inv in (turn-on flatRow _ _ _ _ _ (c .flat-row2 .ensures) (omega (arith, h)) (v .0), v .1, v .2)
 
 returns : tie.Need-returns Inv-loop μ-loop
 unfolding flatAccounts
-returns c = let h = full (c .before .before .before .before) in let v = c .before .loop .inv in rw (← turn-ends flatRow (c .before .before .before .before .args .t1 .rows) (c .before .loop .flat .rows) (c .before .loop .i) (omega (arith, h)) (v .0), ← v .1, ← v .2)
+returns c = let h = full (c .before .before .before .before) in let v = c .before .loop .inv in rw (← turn-ends flatRow _ _ _ (omega (arith, h)) (v .0), ← v .1, ← v .2)
 
 pub flat-accounts-spec : {M : Type 1} → statement M
 flat-accounts-spec =

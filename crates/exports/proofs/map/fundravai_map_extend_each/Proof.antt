@@ -78,7 +78,7 @@ same-length-2 : tie.Need-same-length-2 Inv-loop μ-loop
 same-length-2 c = c .before .before .before .before .before .before .before .loop .inv .3
 
 returns : tie.Need-returns Inv-loop μ-loop
-returns c = let l = length-pairs (c .before .before .before .before .before .before .before .before .before .before .before .before .before .before .before .before .args .extents .now) in rw (c .hand-out .ensures .map) (going-ends Extend _ _ (c .before .before .before .before .before .before .before .loop .inv .4) (drop-of-length-le (pairs (c .before .before .before .before .before .before .before .before .before .before .before .before .before .before .before .before .args .extents .now)) {i = c .before .before .before .before .before .before .before .loop .i} (omega (arith, l, c .before .before .before .before .before .before .loop-test .left))))
+returns c = let l = length-pairs (c .before .before .before .before .before .before .before .before .before .before .before .before .before .before .before .before .args .extents .now) in rw (c .hand-out .ensures .map) (going-ends Extend _ _ (c .before .before .before .before .before .before .before .loop .inv .4) (drop-of-length-le (pairs _) {i = c .before .before .before .before .before .before .before .loop .i} (omega (arith, l, c .before .before .before .before .before .before .loop-test .left))))
 
 pub fundravai-map-extend-each-spec : {M : Type 1} → statement M
 fundravai-map-extend-each-spec =

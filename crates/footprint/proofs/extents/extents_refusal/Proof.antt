@@ -25,7 +25,7 @@ cast-n : tie.Need-cast-n Inv-loop μ-loop
 cast-n c = search needs
 
 loop-holds : tie.Need-loop-holds Inv-loop μ-loop
-loop-holds c = let a = c .before .before .args in record { walk = walk-begins (outside (a .limits) (a .entry)) (committed (a .entry) (a .extents .now)) (a .entry .«extent_count») (sym (length-take-le (a .entry .«extent_count») (pairs (a .extents .now)) (c .before .before .pre))) }
+loop-holds c = let a = c .before .before .args in record { walk = walk-begins (outside _ _) (committed (a .entry) _) _ (sym (length-take-le _ (pairs _) (c .before .before .pre))) }
 
 mul-len : tie.Need-mul-len Inv-loop μ-loop
 mul-len c = let h = walk-in (c .before .loop .inv) (c .loop-test .taken) in omega arith

@@ -15,7 +15,7 @@ abbrev μ-loop : tie.MeasureT-loop
 
 loop-holds : tie.Need-loop-holds Inv-loop μ-loop
 loop-holds c = let a = c .before .args in
-    search-begins (a .count) (a .extents .now) _ (⊎-elim (λ u. omega (arith, u)) (λ u. omega (arith, u)) (c .if1 .came))
+    search-begins _ _ _ (⊎-elim (λ u. omega (arith, u)) (λ u. omega (arith, u)) (c .if1 .came))
 
 mul-if2 : tie.Need-mul-if2 Inv-loop μ-loop
 mul-if2 c = let h = search-in (c .before .loop .inv) (c .loop-test .taken) in omega arith

@@ -13,7 +13,7 @@ abbrev μ-loop : tie.MeasureT-loop
 μ-loop extents starts₀ files₀ lens₀ n start₀ k₀ i₀ starts files lens start k i = n - i
 
 loop-holds : tie.Need-loop-holds Inv-loop μ-loop
-loop-holds c = let a = c .before .before .before .before .args in join-begins (a .extents .now) (a .starts .now) (a .files .now) (a .lens .now) (c .before .before .before .before .pre)
+loop-holds c = let a = c .before .before .before .before .args in join-begins _ _ _ _ (c .before .before .before .before .pre)
 
 mul-if1 : tie.Need-mul-if1 Inv-loop μ-loop
 mul-if1 c = let h = join-in (c .before .loop .inv) (c .loop-test .taken) in omega arith

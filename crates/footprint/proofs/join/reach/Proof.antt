@@ -18,31 +18,31 @@ abbrev μ-loop : tie.MeasureT-loop
 μ-loop extents i n file len₀ j₀ len j = n - j
 
 mul-file : tie.Need-mul-file Inv-loop μ-loop
-mul-file c = let h = pair-in (c .before .args .extents .now) (c .before .args .i) (c .before .pre) in omega arith
+mul-file c = let h = pair-in _ _ (c .before .pre) in omega arith
 
 mul-file-2 : tie.Need-mul-file-2 Inv-loop μ-loop
-mul-file-2 c = let h = pair-in (c .before .args .extents .now) (c .before .args .i) (c .before .pre) in omega arith
+mul-file-2 c = let h = pair-in _ _ (c .before .pre) in omega arith
 
 shared-slice-read-file : tie.Need-shared-slice-read-file Inv-loop μ-loop
-shared-slice-read-file c = let h = pair-in (c .before .before .args .extents .now) (c .before .before .args .i) (c .before .before .pre) in omega arith
+shared-slice-read-file c = let h = pair-in _ _ (c .before .before .pre) in omega arith
 
 mul-len : tie.Need-mul-len Inv-loop μ-loop
-mul-len c = let h = pair-in (c .before .before .args .extents .now) (c .before .before .args .i) (c .before .before .pre) in omega arith
+mul-len c = let h = pair-in _ _ (c .before .before .pre) in omega arith
 
 add-len : tie.Need-add-len Inv-loop μ-loop
-add-len c = let h = pair-in (c .before .before .args .extents .now) (c .before .before .args .i) (c .before .before .pre) in omega arith
+add-len c = let h = pair-in _ _ (c .before .before .pre) in omega arith
 
 mul-len-2 : tie.Need-mul-len-2 Inv-loop μ-loop
-mul-len-2 c = let h = pair-in (c .before .before .args .extents .now) (c .before .before .args .i) (c .before .before .pre) in omega arith
+mul-len-2 c = let h = pair-in _ _ (c .before .before .pre) in omega arith
 
 shared-slice-read-len : tie.Need-shared-slice-read-len Inv-loop μ-loop
-shared-slice-read-len c = let h = pair-in (c .before .before .before .args .extents .now) (c .before .before .before .args .i) (c .before .before .before .pre) in omega arith
+shared-slice-read-len c = let h = pair-in _ _ (c .before .before .before .pre) in omega arith
 
 add-j : tie.Need-add-j Inv-loop μ-loop
-add-j c = let h = pair-in (c .before .before .before .args .extents .now) (c .before .before .before .args .i) (c .before .before .before .pre) in omega arith
+add-j c = let h = pair-in _ _ (c .before .before .before .pre) in omega arith
 
 loop-holds : tie.Need-loop-holds Inv-loop μ-loop
-loop-holds c = reach-begins (c .before .before .before .args .extents .now) (c .before .before .before .args .i) (c .before .before .before .pre)
+loop-holds c = reach-begins _ _ (c .before .before .before .pre)
 
 mul-more : tie.Need-mul-more Inv-loop μ-loop
 mul-more c = let h = reach-in (c .before .loop .inv) (c .loop-test .taken) in omega arith

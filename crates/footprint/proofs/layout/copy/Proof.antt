@@ -15,7 +15,7 @@ sub-n : tie.Need-sub-n Inv-loop μ-loop
 sub-n c = omega (arith, c .pre)
 
 loop-holds : tie.Need-loop-holds Inv-loop μ-loop
-loop-holds c = copy-begins (c .args .from .now) (c .args .s .now) (c .pre .0) (c .pre .1)
+loop-holds c = copy-begins _ _ (c .pre .0) (c .pre .1)
 
 mul-s : tie.Need-mul-s Inv-loop μ-loop
 mul-s c = let g = c .before .loop .inv in let h = copy-length g in omega (arith, g .all, g .enough)

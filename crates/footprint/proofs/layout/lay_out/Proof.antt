@@ -15,7 +15,7 @@ use Rattle.footprint.proofs.layout.lay_out.Tie as tie
 laid : (c : tie.After-sort-pairs) → c .sort-pairs .last .0 ≡ flat (footprintOf (c .before .before .before .before .before .before .before .before .before .args .limits) (c .before .before .before .before .before .before .before .before .before .args .entry) (c .before .before .before .before .before .before .before .before .before .args .extents .now))
 laid c =
     let a = c .before .before .before .before .before .before .before .before .before .args in
-    laid-out (a .limits) (a .entry) (c .before .before .before .before .before .before .block-of .result) (a .extents .now) (a .s .now) (c .before .before .before .before .copy .last .1 .0) (c .sort-pairs .last .0) (c .sort-pairs .result)
+    laid-out (a .limits) (a .entry) _ _ (a .s .now) _ _ _
     (c .before .before .before .before .before .before .block-of .ensures) (c .before .before .before .before .before .before .before .before .before .pre .1) (c .before .before .before .before .before .before .before .before .before .pre .2) (c .before .before .before .before .copy .ensures) (c .sort-pairs .ensures)
 
 block-of-requires : tie.Need-block-of-requires

@@ -15,7 +15,7 @@ abbrev μ-loop : tie.MeasureT-loop
 μ-loop s n i₀ i = n - i
 
 loop-holds : tie.Need-loop-holds Inv-loop μ-loop
-loop-holds c = (omega arith, look-begins (c .args .s .now) (c .pre))
+loop-holds c = (omega arith, look-begins _ (c .pre))
 
 add-loop : tie.Need-add-loop Inv-loop μ-loop
 add-loop c = let g = c .loop .inv in let e = length-pairs (c .before .args .s .now) in omega (arith, g .0, g .1 .all)

@@ -11,7 +11,7 @@ shl-result : tie.Need-shl-result
 shl-result c = search needs
 
 returns : tie.Need-returns
-returns c = shl-exact 1 (c .args .log2) 64 (omega arith) (omega (arith, c .pre)) ∙ one-mul _
+returns c = shl-exact 1 _ 64 (omega arith) (omega (arith, c .pre)) ∙ one-mul _
 
 pub block-of-spec : {M : Type 1} → statement M
 block-of-spec = tie.close (tie.spec shl-result returns)

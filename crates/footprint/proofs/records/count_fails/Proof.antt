@@ -29,7 +29,7 @@ add-result c = omega arith
 
 returns-3 : tie.Need-returns-3
 unfolding countFails
-returns-3 c = let k : kindCode (c .before .before .before .before .before .before .before .args .entry .kind) ≡ 3 → ⊥ = λ e. c .before .before .if2 .left (c .before .before .before .kind-code .ensures ∙ e) in
+returns-3 c = let k : kindCode _ ≡ 3 → ⊥ = λ e. c .before .before .if2 .left (c .before .before .before .kind-code .ensures ∙ e) in
     simp (ne-eqb _ _ (c .before .before .before .before .if1 .left), ne-eqb _ _ k)
 
 pub count-fails-spec : {M : Type 1} → statement M

@@ -27,7 +27,7 @@ kind-code-requires-2 c κs = search needs
 
 returns-2 : tie.Need-returns-2
 unfolding first refuse
-returns-2 c = let d : kindCode (c .before .before .before .before .before .args .header .kind) ≡ kindCode (c .before .before .before .before .before .args .entry .kind) → ⊥ = λ e. c .if2 .taken (c .before .before .kind-code .ensures ∙ e ∙ sym (c .before .kind-code2 .ensures)) in
+returns-2 c = let d : kindCode _ ≡ kindCode _ → ⊥ = λ e. c .if2 .taken (c .before .before .kind-code .ensures ∙ e ∙ sym (c .before .kind-code2 .ensures)) in
     simp (eq-eqb _ _ (c .before .before .before .if1 .left), ne-eqb _ _ d)
 
 returns-3 : tie.Need-returns-3
@@ -49,7 +49,7 @@ block-of-requires : tie.Need-block-of-requires
 block-of-requires c κs = omega (arith, c .before .before .before .before .before .before .before .before .before .before .before .before .pre)
 
 rem-if6 : tie.Need-rem-if6
-rem-if6 c = rw (c .before .block-of .ensures) (pow-pos (c .before .before .before .before .before .before .before .before .before .before .before .before .before .before .args .header .«log2_block»))
+rem-if6 c = rw (c .before .block-of .ensures) (pow-pos _)
 
 returns-6 : tie.Need-returns-6
 unfolding first refuse

@@ -15,7 +15,7 @@ even : (c : tie.Else1) → isOdd (c .before .before .before .before .before .arg
 even c = even-list (c .before .before .before .before .before .args .extents .now) (c .if1 .left)
 
 listed : (c : tie.Else2) → eqb (length (pairs (c .before .before .before .before .before .before .args .extents .now))) (c .before .before .before .before .before .before .args .header .«extent_count») ≡ true
-listed c = eq-eqb _ _ (length-pairs (c .before .before .before .before .before .before .args .extents .now) ∙ c .if2 .left)
+listed c = eq-eqb _ _ (length-pairs _ ∙ c .if2 .left)
 
 few : (c : tie.Else3) → ltb (maxExtents (c .before .before .before .before .before .before .before .args .limits .«log2_block»)) (c .before .before .before .before .before .before .before .args .entry .«extent_count») ≡ false
 few c = rw (← c .before .before .before .before .before .max-extents .ensures) (le-ltb _ _ (c .if3 .left))

@@ -19,9 +19,9 @@ returns-3 c = simp (le-ltb _ _ (c .before .before .before .before .if1 .left), l
 returns-4 : tie.Need-returns-4
 unfolding logsFail
 returns-4 c = let a = c .before .before .before .before .before .before .before .before .args in
-    let i = le-ltb (a .limits .«log2_block») 12 (c .before .before .before .before .before .before .if1 .left) in
-    let j = le-ltb 16 (a .limits .«log2_block») (c .before .before .before .before .if2 .left) in
-    let k = ne-eqb (a .header .«log2_block») 9 (c .before .before .if3 .left) in
+    let i = le-ltb _ 12 (c .before .before .before .before .before .before .if1 .left) in
+    let j = le-ltb 16 _ (c .before .before .before .before .if2 .left) in
+    let k = ne-eqb _ 9 (c .before .before .if3 .left) in
     rw (i, j, k)
 
 pub logs-fail-spec : {M : Type 1} → statement M

@@ -12,7 +12,7 @@ meets-requires : tie.Need-meets-requires
 meets-requires c κs = search needs
 
 returns : tie.Need-returns
-returns c = let a = c .before .before .before .before .args in c .meets .ensures ∙ ap (λ (e : ℕ). eqb e (a .file)) (sym (rw (c .before .if1 .taken) (end-first (a .self .capacity) (a .self .first) (a .starts .now) (a .files .now))))
+returns c = let a = c .before .before .before .before .args in c .meets .ensures ∙ ap (λ (e : ℕ). eqb e (a .file)) (sym (rw (c .before .if1 .taken) (end-first _ _ (a .starts .now) (a .files .now))))
 
 sub-meets : tie.Need-sub-meets
 sub-meets c = let h = c .before .before .before .pre in omega (arith, c .if1 .left, h .0, h .1)
@@ -39,7 +39,7 @@ meets-requires-2 : tie.Need-meets-requires-2
 meets-requires-2 c κs = search needs
 
 returns-2 : tie.Need-returns-2
-returns-2 c = let a = c .before .before .before .before .before .before .before .args in let h = c .before .before .before .before .before .before .before .pre in let p : 0 < a .self .count = omega (arith, c .before .before .before .before .if1 .left) in c .meets2 .ensures ∙ ap (λ (e : ℕ). eqb e (a .file)) (rw (c .before .sub-stop .ensures) (sym (end-later (a .self .capacity) (a .self .first) (a .self .count) (a .starts .now) (a .files .now) p (h .0) (h .1))))
+returns-2 c = let a = c .before .before .before .before .before .before .before .args in let h = c .before .before .before .before .before .before .before .pre in let p : 0 < a .self .count = omega (arith, c .before .before .before .before .if1 .left) in c .meets2 .ensures ∙ ap (λ (e : ℕ). eqb e (a .file)) (rw (c .before .sub-stop .ensures) (sym (end-later _ _ _ _ _ p (h .0) (h .1))))
 
 pub ends-at-spec : {M : Type 1} → statement M
 ends-at-spec =

@@ -16,7 +16,7 @@ use Rattle.regionmap.proofs.RegionMap.extend.Tie as tie
 
 -- what the tests up to a place have shown
 enough : (c : tie.Else1) → Enough (c .before .before .before .before .args .self) (c .before .before .before .before .args .starts .now) (c .before .before .before .before .args .files .now)
-enough c = lists-pass (c .before .before .before .before .args .self) (c .before .before .before .before .args .starts .now) (c .before .before .before .before .args .files .now) (sym (c .before .lists-fail .ensures) ∙ c .if1 .left)
+enough c = lists-pass _ _ _ (sym (c .before .lists-fail .ensures) ∙ c .if1 .left)
 
 below : (c : tie.Else3) → (eqb (c .before .before .before .before .before .before .before .args .n) 0 || passesTop (range (c .before .before .before .before .before .before .before .args .file) (c .before .before .before .before .before .before .before .args .n))) ≡ false
 unfolding passesTop
@@ -35,23 +35,23 @@ lists-fail-requires : tie.Need-lists-fail-requires
 lists-fail-requires c κs = search needs
 
 returns : tie.Need-returns
-returns c = let a = c .before .before .before .before .args in extend-refused (a .self) (a .file) (a .n) (a .starts .now) (a .files .now) 1 (λ z. omega arith) (λ v. extend-few (placementOf (a .self) (a .starts .now) (a .files .now)) (a .file) (a .n) (a .starts .now) (a .files .now) (lists-fail (a .self) (a .starts .now) (a .files .now) v (sym (c .before .lists-fail .ensures) ∙ c .if1 .taken)))
+returns c = let a = c .before .before .before .before .args in extend-refused _ _ _ _ _ 1 (λ z. omega arith) (λ v. extend-few (placementOf (a .self) _ _) _ _ _ _ (lists-fail _ _ _ v (sym (c .before .lists-fail .ensures) ∙ c .if1 .taken)))
 
 returns-2 : tie.Need-returns-2
-returns-2 c = let a = c .before .before .before .before .before .args in extend-refused (a .self) (a .file) (a .n) (a .starts .now) (a .files .now) 11 (λ z. omega arith) (λ v. extend-outside (placementOf (a .self) (a .starts .now) (a .files .now)) (a .file) (a .n) (a .starts .now) (a .files .now) (enough (c .before) .places) (simp (eq-eqb _ _ (c .if2 .taken))))
+returns-2 c = let a = c .before .before .before .before .before .args in extend-refused (a .self) (a .file) _ _ _ 11 (λ z. omega arith) (λ v. extend-outside (placementOf (a .self) _ _) _ _ _ _ (enough (c .before) .places) (simp (eq-eqb _ _ (c .if2 .taken))))
 
 passes-requires : tie.Need-passes-requires
 passes-requires c κs = search needs
 
 returns-3 : tie.Need-returns-3
 unfolding passesTop
-returns-3 c = let a = c .before .before .before .before .before .before .before .args in extend-refused (a .self) (a .file) (a .n) (a .starts .now) (a .files .now) 11 (λ z. omega arith) (λ v. extend-outside (placementOf (a .self) (a .starts .now) (a .files .now)) (a .file) (a .n) (a .starts .now) (a .files .now) (enough (c .before .before .before) .places) (simp (ne-eqb _ _ (c .before .before .if2 .left), sym (c .before .passes .ensures) ∙ c .if3 .taken)))
+returns-3 c = let a = c .before .before .before .before .before .before .before .args in extend-refused (a .self) (a .file) _ _ _ 11 (λ z. omega arith) (λ v. extend-outside (placementOf (a .self) _ _) _ _ _ _ (enough (c .before .before .before) .places) (simp (ne-eqb _ _ (c .before .before .if2 .left), sym (c .before .passes .ensures) ∙ c .if3 .taken)))
 
 passes-requires-2 : tie.Need-passes-requires-2
 passes-requires-2 c κs = search needs
 
 returns-4 : tie.Need-returns-4
-returns-4 c = let a = c .before .before .before .before .before .before .before .before .before .args in extend-refused (a .self) (a .file) (a .n) (a .starts .now) (a .files .now) 12 (λ z. omega arith) (λ v. extend-over (placementOf (a .self) (a .starts .now) (a .files .now)) (a .file) (a .n) (a .starts .now) (a .files .now) (enough (c .before .before .before .before .before) .places) (below (c .before .before)) (sym (c .before .passes2 .ensures) ∙ c .if4 .taken))
+returns-4 c = let a = c .before .before .before .before .before .before .before .before .before .args in extend-refused (a .self) (a .file) _ _ _ 12 (λ z. omega arith) (λ v. extend-over (placementOf (a .self) _ _) _ _ _ _ (enough (c .before .before .before .before .before) .places) (below (c .before .before)) (sym (c .before .passes2 .ensures) ∙ c .if4 .taken))
 
 add-map : tie.Need-add-map
 add-map c = let h = whole (c .before) in omega arith
@@ -66,7 +66,7 @@ same-length-2 : tie.Need-same-length-2
 same-length-2 c = search needs
 
 returns-5 : tie.Need-returns-5
-returns-5 c = let a = c .before .before .before .before .before .before .before .before .before .before .before .before .before .before .args in extend-joins (a .self) (a .file) (a .n) (a .starts .now) (a .files .now) (enough (c .before .before .before .before .before .before .before .before .before .before)) (below (c .before .before .before .before .before .before .before)) (sums (c .before .before .before .before .before)) (ends (c .before .before .before .before .before .before .before)) (whole (c .before .before .before .before .before)) (sym (c .before .ends-at .ensures) ∙ c .if5 .taken)
+returns-5 c = let a = c .before .before .before .before .before .before .before .before .before .before .before .before .before .before .args in extend-joins (a .self) (a .file) (a .n) _ _ (enough (c .before .before .before .before .before .before .before .before .before .before)) (below (c .before .before .before .before .before .before .before)) (sums (c .before .before .before .before .before)) (ends (c .before .before .before .before .before .before .before)) (whole (c .before .before .before .before .before)) (sym (c .before .ends-at .ensures) ∙ c .if5 .taken)
 
 same-length-3 : tie.Need-same-length-3
 same-length-3 c = search needs
@@ -75,7 +75,7 @@ same-length-4 : tie.Need-same-length-4
 same-length-4 c = search needs
 
 returns-6 : tie.Need-returns-6
-returns-6 c = let a = c .before .before .before .before .before .before .before .before .before .before .before .before .before .before .before .before .args in extend-refused (a .self) (a .file) (a .n) (a .starts .now) (a .files .now) 19 (λ z. omega arith) (λ v. extend-full (placementOf (a .self) (a .starts .now) (a .files .now)) (a .file) (a .n) (a .starts .now) (a .files .now) (enough (c .before .before .before .before .before .before .before .before .before .before .before .before) .places) (below (c .before .before .before .before .before .before .before .before .before)) (sums (c .before .before .before .before .before .before .before)) (sym (c .before .before .before .ends-at .ensures) ∙ c .before .before .if5 .left) (omega (arith, runs-length (a .self) (a .starts .now) (a .files .now) v, c .if6 .taken)))
+returns-6 c = let a = c .before .before .before .before .before .before .before .before .before .before .before .before .before .before .before .before .args in extend-refused (a .self) (a .file) _ _ _ 19 (λ z. omega arith) (λ v. extend-full (placementOf (a .self) _ _) _ _ _ _ (enough (c .before .before .before .before .before .before .before .before .before .before .before .before) .places) (below (c .before .before .before .before .before .before .before .before .before)) (sums (c .before .before .before .before .before .before .before)) (sym (c .before .before .before .ends-at .ensures) ∙ c .before .before .if5 .left) (omega (arith, runs-length _ _ _ v, c .if6 .taken)))
 
 mul-starts : tie.Need-mul-starts
 mul-starts c = let e = enough (c .before .before .before .before .before .before .before .before .before .before .before .before) in omega (arith, e .room, e .wide .0, e .wide .1, c .if6 .left)
@@ -99,7 +99,7 @@ same-length-6 : tie.Need-same-length-6
 same-length-6 c = search needs
 
 returns-7 : tie.Need-returns-7
-returns-7 c = let a = c .before .before .before .before .before .before .before .before .before .before .before .before .before .before .before .before .args in let e = enough (c .before .before .before .before .before .before .before .before .before .before .before .before) in extend-takes (a .self) (a .file) (a .n) (a .starts .now) (a .files .now) e (below (c .before .before .before .before .before .before .before .before .before)) (sums (c .before .before .before .before .before .before .before)) (ends (c .before .before .before .before .before .before .before .before .before)) (whole (c .before .before .before .before .before .before .before)) (sym (c .before .before .before .ends-at .ensures) ∙ c .before .before .if5 .left) (c .if6 .left) (omega (arith, e .room, e .wide .0, c .if6 .left)) (omega (arith, e .room, e .wide .1, c .if6 .left))
+returns-7 c = let a = c .before .before .before .before .before .before .before .before .before .before .before .before .before .before .before .before .args in let e = enough (c .before .before .before .before .before .before .before .before .before .before .before .before) in extend-takes (a .self) (a .file) (a .n) _ _ e (below (c .before .before .before .before .before .before .before .before .before)) (sums (c .before .before .before .before .before .before .before)) (ends (c .before .before .before .before .before .before .before .before .before)) (whole (c .before .before .before .before .before .before .before)) (sym (c .before .before .before .ends-at .ensures) ∙ c .before .before .if5 .left) (c .if6 .left) (omega (arith, e .room, e .wide .0, c .if6 .left)) (omega (arith, e .room, e .wide .1, c .if6 .left))
 
 pub extend-spec : {M : Type 1} → statement M
 extend-spec =

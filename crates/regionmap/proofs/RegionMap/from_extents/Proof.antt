@@ -40,27 +40,27 @@ bytes c = c .before .before .measure .ensures .sum (c .if4 .left)
 
 returns : tie.Need-returns
 unfolding extentsFail tooFew
-returns c = let a = c .before .before .before .before .args in made-refused (a .extents .now) (a .len) (a .starts .now) (a .files .now) 1 (λ z. omega arith) (from-lists (a .extents .now) (a .len) (a .starts .now) (a .files .now) (simp (odd-list (a .extents .now) (c .if1 .taken))))
+returns c = let a = c .before .before .before .before .args in made-refused _ _ _ _ 1 (λ z. omega arith) (from-lists _ _ _ _ (simp (odd-list (a .extents .now) (c .if1 .taken))))
 
 returns-2 : tie.Need-returns-2
 unfolding extentsFail tooFew
-returns-2 c = let a = c .before .before .before .before .before .args in made-refused (a .extents .now) (a .len) (a .starts .now) (a .files .now) 1 (λ z. omega arith) (from-lists (a .extents .now) (a .len) (a .starts .now) (a .files .now) (simp (even-list (a .extents .now) (c .before .if1 .left), lt-ltb limit (length (pairs (a .extents .now))) (omega (arith, c .if2 .taken, length-pairs (a .extents .now))))))
+returns-2 c = let a = c .before .before .before .before .before .args in made-refused _ _ _ _ 1 (λ z. omega arith) (from-lists _ _ _ _ (simp (even-list (a .extents .now) (c .before .if1 .left), lt-ltb limit (length (pairs (a .extents .now))) (omega (arith, c .if2 .taken, length-pairs (a .extents .now))))))
 
 too-few-requires : tie.Need-too-few-requires
 too-few-requires c κs = search needs
 
 returns-3 : tie.Need-returns-3
 unfolding extentsFail tooFew
-returns-3 c = let a = c .before .before .before .before .before .before .before .args in made-refused (a .extents .now) (a .len) (a .starts .now) (a .files .now) 1 (λ z. omega arith) (from-lists (a .extents .now) (a .len) (a .starts .now) (a .files .now) (simp (even-list (a .extents .now) (c .before .before .before .if1 .left), le-ltb limit (length (a .extents .now) / 2) (c .before .before .if2 .left), length-pairs (a .extents .now), sym (c .before .too-few .ensures) ∙ c .if3 .taken)))
+returns-3 c = let a = c .before .before .before .before .before .before .before .args in made-refused _ _ _ _ 1 (λ z. omega arith) (from-lists _ _ _ _ (simp (even-list (a .extents .now) (c .before .before .before .if1 .left), le-ltb limit (length (a .extents .now) / 2) (c .before .before .if2 .left), length-pairs (a .extents .now), sym (c .before .too-few .ensures) ∙ c .if3 .taken)))
 
 measure-requires : tie.Need-measure-requires
 measure-requires c κs = search needs
 
 returns-4 : tie.Need-returns-4
-returns-4 c = let a = c .before .before .before .before .before .before .before .before .before .before .args in made-refused (a .extents .now) (a .len) (a .starts .now) (a .files .now) _ (c .if4 .taken) (from-each (a .extents .now) (a .len) (a .starts .now) (a .files .now) (lists (c .before .before .before)) _ (c .before .before .measure .ensures .number) (c .if4 .taken))
+returns-4 c = let a = c .before .before .before .before .before .before .before .before .before .before .args in made-refused (a .extents .now) (a .len) (a .starts .now) (a .files .now) _ (c .if4 .taken) (from-each _ _ _ _ (lists (c .before .before .before)) _ (c .before .before .measure .ensures .number) (c .if4 .taken))
 
 returns-5 : tie.Need-returns-5
-returns-5 c = let a = c .before .before .before .before .before .before .before .before .before .before .before .before .args in made-refused (a .extents .now) (a .len) (a .starts .now) (a .files .now) 23 (λ z. omega arith) (from-past (a .extents .now) (a .len) (a .starts .now) (a .files .now) (lists (c .before .before .before .before .before)) (clean (c .before .before)) (omega (arith, bytes (c .before .before), c .if5 .taken)))
+returns-5 c = let a = c .before .before .before .before .before .before .before .before .before .before .before .before .args in made-refused (a .extents .now) (a .len) (a .starts .now) (a .files .now) 23 (λ z. omega arith) (from-past _ _ _ _ (lists (c .before .before .before .before .before)) (clean (c .before .before)) (omega (arith, bytes (c .before .before), c .if5 .taken)))
 
 lay-requires : tie.Need-lay-requires
 lay-requires c κs = let p = places (c .before .before .before .before .before .before .before) in (clean (c .before .before .before .before), p .0, p .1)

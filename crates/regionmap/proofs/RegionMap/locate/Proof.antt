@@ -20,26 +20,26 @@ one-less k d = omega (arith, d)
 
 -- what the tests up to a place have shown
 enough : (c : tie.Else1) → Enough (c .before .before .before .before .args .self) (c .before .before .before .before .args .starts .now) (c .before .before .before .before .args .files .now)
-enough c = lists-pass (c .before .before .before .before .args .self) (c .before .before .before .before .args .starts .now) (c .before .before .before .before .args .files .now) (sym (c .before .lists-fail .ensures) ∙ c .if1 .left)
+enough c = lists-pass _ _ _ (sym (c .before .lists-fail .ensures) ∙ c .if1 .left)
 
 in-data : (c : tie.Else2) → ltb (c .before .before .before .before .before .before .args .self .len) (c .before .before .before .before .before .before .args .pos + c .before .before .before .before .before .before .args .n) ≡ false
 in-data c = sym (c .before .passes .ensures) ∙ c .if2 .left
 
 -- the test of the run's end, which is that of the position's run
 crosses : (c : tie.After-passes2) → Valid (c .before .before .before .before .before .before .before .before .before .args .self) (c .before .before .before .before .before .before .before .before .before .args .starts .now) (c .before .before .before .before .before .before .before .before .before .args .files .now) → ltb (runOf (placementOf (c .before .before .before .before .before .before .before .before .before .args .self) (c .before .before .before .before .before .before .before .before .before .args .starts .now) (c .before .before .before .before .before .before .before .before .before .args .files .now) .runs) (c .before .before .before .before .before .before .before .before .before .args .pos) .start + runOf (placementOf (c .before .before .before .before .before .before .before .before .before .args .self) (c .before .before .before .before .before .before .before .before .before .args .starts .now) (c .before .before .before .before .before .before .before .before .before .args .files .now) .runs) (c .before .before .before .before .before .before .before .before .before .args .pos) .len) (c .before .before .before .before .before .before .before .before .before .args .pos + c .before .before .before .before .before .before .before .before .before .args .n) ≡ c .passes2 .result
-crosses c v = ap (λ (e : ℕ). ltb e (c .before .before .before .before .before .before .before .before .before .args .pos + c .before .before .before .before .before .before .before .before .before .args .n)) (found-end (c .before .before .before .before .before .before .before .before .before .args .self) (c .before .before .before .before .before .before .before .before .before .args .starts .now) (c .before .before .before .before .before .before .before .before .before .args .files .now) v (c .before .before .before .before .before .before .before .before .before .args .pos) _ _ (c .before .before .find .ensures) (c .before .run-end .ensures)) ∙ sym (c .passes2 .ensures)
+crosses c v = ap (λ (e : ℕ). ltb e (c .before .before .before .before .before .before .before .before .before .args .pos + c .before .before .before .before .before .before .before .before .before .args .n)) (found-end _ _ _ v _ _ _ (c .before .before .find .ensures) (c .before .run-end .ensures)) ∙ sym (c .passes2 .ensures)
 
 lists-fail-requires : tie.Need-lists-fail-requires
 lists-fail-requires c κs = search needs
 
 returns : tie.Need-returns
-returns c = let a = c .before .before .before .before .args in record { answer = λ v. locate-few (placementOf (a .self) (a .starts .now) (a .files .now)) (a .pos) (a .n) (a .starts .now) (a .files .now) (lists-fail (a .self) (a .starts .now) (a .files .now) v (sym (c .before .lists-fail .ensures) ∙ c .if1 .taken)) }
+returns c = let a = c .before .before .before .before .args in record { answer = λ v. locate-few (placementOf (a .self) _ _) _ _ _ _ (lists-fail _ _ _ v (sym (c .before .lists-fail .ensures) ∙ c .if1 .taken)) }
 
 passes-requires : tie.Need-passes-requires
 passes-requires c κs = search needs
 
 returns-2 : tie.Need-returns-2
-returns-2 c = let a = c .before .before .before .before .before .before .args in record { answer = λ v. locate-past (placementOf (a .self) (a .starts .now) (a .files .now)) (a .pos) (a .n) (a .starts .now) (a .files .now) (enough (c .before .before) .places) (sym (c .before .passes .ensures) ∙ c .if2 .taken) }
+returns-2 c = let a = c .before .before .before .before .before .before .args in record { answer = λ v. locate-past (placementOf (a .self) (a .starts .now) (a .files .now)) _ _ _ _ (enough (c .before .before) .places) (sym (c .before .passes .ensures) ∙ c .if2 .taken) }
 
 find-requires : tie.Need-find-requires
 find-requires c κs = enough (c .before .before) .starts
@@ -57,7 +57,7 @@ add-stop-requires : tie.Need-add-stop-requires
 add-stop-requires c κs = search needs
 
 returns-4 : tie.Need-returns-4
-returns-4 c = let a = c .before .before .before .before .before .before .before .before .before .before .before .before .args in record { answer = λ v. rw (c .add-stop .ensures) (locate-at (placementOf (a .self) (a .starts .now) (a .files .now)) (a .pos) (a .n) (a .starts .now) (a .files .now) (enough (c .before .before .before .before .before .before .before .before) .places) (in-data (c .before .before .before .before .before .before)) (crosses (c .before .before .before) v ∙ c .before .before .if3 .left) _ (found-first (a .self) (a .starts .now) (a .files .now) v (a .pos) (subst (Found (a .starts .now) (a .self .count) (a .pos)) (c .before .if4 .taken) (c .before .before .before .before .before .find .ensures)) (within _ (a .pos) (a .n) (crosses (c .before .before .before) v ∙ c .before .before .if3 .left)))) }
+returns-4 c = let a = c .before .before .before .before .before .before .before .before .before .before .before .before .args in record { answer = λ v. rw (c .add-stop .ensures) (locate-at (placementOf (a .self) (a .starts .now) (a .files .now)) (a .pos) (a .n) (a .starts .now) (a .files .now) (enough (c .before .before .before .before .before .before .before .before) .places) (in-data (c .before .before .before .before .before .before)) (crosses (c .before .before .before) v ∙ c .before .before .if3 .left) _ (found-first (a .self) (a .starts .now) (a .files .now) v _ (subst (Found _ _ _) (c .before .if4 .taken) (c .before .before .before .before .before .find .ensures)) (within _ _ _ (crosses (c .before .before .before) v ∙ c .before .before .if3 .left)))) }
 
 sub-add-stop : tie.Need-sub-add-stop
 sub-add-stop c = let e = enough (c .before .before .before .before .before .before .before) in omega (arith, e .starts, e .files, c .before .before .before .before .find .ensures .inside, c .if4 .left)
@@ -84,7 +84,7 @@ add-stop-requires-2 : tie.Need-add-stop-requires-2
 add-stop-requires-2 c κs = search needs
 
 returns-5 : tie.Need-returns-5
-returns-5 c = let a = c .before .before .before .before .before .before .before .before .before .before .before .before .before .before .args in record { answer = λ v. rw (c .add-stop2 .ensures) (locate-at (placementOf (a .self) (a .starts .now) (a .files .now)) (a .pos) (a .n) (a .starts .now) (a .files .now) (enough (c .before .before .before .before .before .before .before .before .before .before) .places) (in-data (c .before .before .before .before .before .before .before .before)) (crosses (c .before .before .before .before .before) v ∙ c .before .before .before .before .if3 .left) _ (found-later (a .self) (a .starts .now) (a .files .now) v (a .pos) _ (omega (arith, c .before .before .before .before .before .before .before .find .ensures .inside, c .before .before .before .if4 .left)) (subst (Found (a .starts .now) (a .self .count) (a .pos)) (one-less _ (c .before .before .before .if4 .left)) (c .before .before .before .before .before .before .before .find .ensures)) (within _ (a .pos) (a .n) (crosses (c .before .before .before .before .before) v ∙ c .before .before .before .before .if3 .left)))) }
+returns-5 c = let a = c .before .before .before .before .before .before .before .before .before .before .before .before .before .before .args in record { answer = λ v. rw (c .add-stop2 .ensures) (locate-at (placementOf (a .self) (a .starts .now) (a .files .now)) (a .pos) (a .n) (a .starts .now) (a .files .now) (enough (c .before .before .before .before .before .before .before .before .before .before) .places) (in-data (c .before .before .before .before .before .before .before .before)) (crosses (c .before .before .before .before .before) v ∙ c .before .before .before .before .if3 .left) _ (found-later (a .self) (a .starts .now) (a .files .now) v _ _ (omega (arith, c .before .before .before .before .before .before .before .find .ensures .inside, c .before .before .before .if4 .left)) (subst (Found _ _ _) (one-less _ (c .before .before .before .if4 .left)) (c .before .before .before .before .before .before .before .find .ensures)) (within _ _ _ (crosses (c .before .before .before .before .before) v ∙ c .before .before .before .before .if3 .left)))) }
 
 pub locate-spec : {M : Type 1} → statement M
 locate-spec =

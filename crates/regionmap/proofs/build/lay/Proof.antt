@@ -12,7 +12,7 @@ abbrev μ-loop : tie.MeasureT-loop
 μ-loop extents starts₀ files₀ n first₀ count₀ at₀ end₀ i₀ starts files first count at end i = n - i
 
 loop-holds : tie.Need-loop-holds Inv-loop μ-loop
-loop-holds c = build-begins (c .args .extents .now) (c .args .starts .now) (c .args .files .now) (c .pre)
+loop-holds c = build-begins _ _ _ (c .pre)
 
 mul-file : tie.Need-mul-file Inv-loop μ-loop
 mul-file c = let h = build-in (c .before .loop .inv) (c .loop-test .taken) in omega arith

@@ -30,55 +30,55 @@ abbrev μ-loop : tie.MeasureT-loop
 μ-loop extents n bytes₀ i₀ bytes i = n - i
 
 loop-holds : tie.Need-loop-holds Inv-loop μ-loop
-loop-holds c = walk-begins passesTop (pairs (c .before .args .extents .now)) _ (sym (length-pairs (c .before .args .extents .now)))
+loop-holds c = walk-begins passesTop (pairs _) _ (sym (length-pairs _))
 
 mul-len : tie.Need-mul-len Inv-loop μ-loop
-mul-len c = let h = inside (c .before .before .before .args .extents .now) (c .before .loop .inv) (c .loop-test .taken) in omega arith
+mul-len c = let h = inside _ (c .before .loop .inv) (c .loop-test .taken) in omega arith
 
 add-len : tie.Need-add-len Inv-loop μ-loop
-add-len c = let h = inside (c .before .before .before .args .extents .now) (c .before .loop .inv) (c .loop-test .taken) in omega arith
+add-len c = let h = inside _ (c .before .loop .inv) (c .loop-test .taken) in omega arith
 
 mul-len-2 : tie.Need-mul-len-2 Inv-loop μ-loop
-mul-len-2 c = let h = inside (c .before .before .before .args .extents .now) (c .before .loop .inv) (c .loop-test .taken) in omega arith
+mul-len-2 c = let h = inside _ (c .before .loop .inv) (c .loop-test .taken) in omega arith
 
 shared-slice-read-len : tie.Need-shared-slice-read-len Inv-loop μ-loop
-shared-slice-read-len c = let h = inside (c .before .before .before .before .args .extents .now) (c .before .before .loop .inv) (c .before .loop-test .taken) in omega arith
+shared-slice-read-len c = let h = inside _ (c .before .before .loop .inv) (c .before .loop-test .taken) in omega arith
 
 mul-passes : tie.Need-mul-passes Inv-loop μ-loop
-mul-passes c = let h = inside (c .before .before .before .before .args .extents .now) (c .before .before .loop .inv) (c .before .loop-test .taken) in omega arith
+mul-passes c = let h = inside _ (c .before .before .loop .inv) (c .before .loop-test .taken) in omega arith
 
 mul-passes-2 : tie.Need-mul-passes-2 Inv-loop μ-loop
-mul-passes-2 c = let h = inside (c .before .before .before .before .args .extents .now) (c .before .before .loop .inv) (c .before .loop-test .taken) in omega arith
+mul-passes-2 c = let h = inside _ (c .before .before .loop .inv) (c .before .loop-test .taken) in omega arith
 
 shared-slice-read-passes : tie.Need-shared-slice-read-passes Inv-loop μ-loop
-shared-slice-read-passes c = let h = inside (c .before .before .before .before .before .args .extents .now) (c .before .before .before .loop .inv) (c .before .before .loop-test .taken) in omega arith
+shared-slice-read-passes c = let h = inside _ (c .before .before .before .loop .inv) (c .before .before .loop-test .taken) in omega arith
 
 passes-requires : tie.Need-passes-requires Inv-loop μ-loop
 passes-requires c κs = search needs
 
 returns : tie.Need-returns Inv-loop μ-loop
 unfolding passesTop
-returns c = record { number = sym (walk-outside (c .before .before .before .before .before .loop .inv) (c .before .before .before .before .loop-test .taken) _ (at (c .before .before .before .before .before .before .before .args .extents .now) (c .before .before .before .before .before .loop .inv) (c .before .before .before .before .loop-test .taken)) (sym (c .before .passes .ensures) ∙ c .if1 .taken)); sum = λ z. absurd (omega arith) }
+returns c = record { number = sym (walk-outside (c .before .before .before .before .before .loop .inv) (c .before .before .before .before .loop-test .taken) _ (at _ (c .before .before .before .before .before .loop .inv) (c .before .before .before .before .loop-test .taken)) (sym (c .before .passes .ensures) ∙ c .if1 .taken)); sum = λ z. absurd (omega arith) }
 
 passes-requires-2 : tie.Need-passes-requires-2 Inv-loop μ-loop
 passes-requires-2 c κs = search needs
 
 returns-2 : tie.Need-returns-2 Inv-loop μ-loop
 unfolding passesTop
-returns-2 c = record { number = sym (walk-over (c .before .before .before .before .before .before .before .loop .inv) (c .before .before .before .before .before .before .loop-test .taken) _ (at (c .before .before .before .before .before .before .before .before .before .args .extents .now) (c .before .before .before .before .before .before .before .loop .inv) (c .before .before .before .before .before .before .loop-test .taken)) (sym (c .before .before .before .passes .ensures) ∙ c .before .before .if1 .left) (sym (c .before .passes2 .ensures) ∙ c .if2 .taken)); sum = λ z. absurd (omega arith) }
+returns-2 c = record { number = sym (walk-over (c .before .before .before .before .before .before .before .loop .inv) (c .before .before .before .before .before .before .loop-test .taken) _ (at _ (c .before .before .before .before .before .before .before .loop .inv) (c .before .before .before .before .before .before .loop-test .taken)) (sym (c .before .before .before .passes .ensures) ∙ c .before .before .if1 .left) (sym (c .before .passes2 .ensures) ∙ c .if2 .taken)); sum = λ z. absurd (omega arith) }
 
 add-bytes : tie.Need-add-bytes Inv-loop μ-loop
 add-bytes c = let h : c .before .before .before .before .before .before .before .loop .bytes + getD (c .before .before .before .before .before .before .before .before .before .args .extents .now) (2 * c .before .before .before .before .before .before .before .loop .i + 1) 0 ≤ top = ltb-false _ _ (sym (c .before .passes2 .ensures) ∙ c .if2 .left) in omega arith
 
 add-i : tie.Need-add-i Inv-loop μ-loop
-add-i c = let h = inside (c .before .before .before .before .before .before .before .before .before .args .extents .now) (c .before .before .before .before .before .before .before .loop .inv) (c .before .before .before .before .before .before .loop-test .taken) in omega arith
+add-i c = let h = inside _ (c .before .before .before .before .before .before .before .loop .inv) (c .before .before .before .before .before .before .loop-test .taken) in omega arith
 
 loop-less : tie.Need-loop-less Inv-loop μ-loop
 loop-less c = omega arith
 
 loop-again : tie.Need-loop-again Inv-loop μ-loop
 unfolding passesTop
-loop-again c = walk-on (c .before .before .before .before .before .before .before .loop .inv) (c .before .before .before .before .before .before .loop-test .taken) _ (at (c .before .before .before .before .before .before .before .before .before .args .extents .now) (c .before .before .before .before .before .before .before .loop .inv) (c .before .before .before .before .before .before .loop-test .taken)) (sym (c .before .before .before .passes .ensures) ∙ c .before .before .if1 .left) (sym (c .before .passes2 .ensures) ∙ c .if2 .left)
+loop-again c = walk-on (c .before .before .before .before .before .before .before .loop .inv) (c .before .before .before .before .before .before .loop-test .taken) _ (at _ (c .before .before .before .before .before .before .before .loop .inv) (c .before .before .before .before .before .before .loop-test .taken)) (sym (c .before .before .before .passes .ensures) ∙ c .before .before .if1 .left) (sym (c .before .passes2 .ensures) ∙ c .if2 .left)
 
 returns-3 : tie.Need-returns-3 Inv-loop μ-loop
 returns-3 c = record { number = sym (walk-ends (c .before .loop .inv) (c .loop-test .left)); sum = λ z. walk-sum (c .before .loop .inv) (c .loop-test .left) }

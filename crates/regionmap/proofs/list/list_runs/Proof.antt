@@ -14,7 +14,7 @@ abbrev μ-loop : tie.MeasureT-loop
 μ-loop map starts files out₀ count start₀ file₀ i₀ out start file i = count - i
 
 loop-holds : tie.Need-loop-holds Inv-loop μ-loop
-loop-holds c = list-begins (c .before .before .before .args .map) (c .before .before .before .args .starts .now) (c .before .before .before .args .files .now) (c .before .before .before .args .out .now) (c .before .before .before .pre)
+loop-holds c = list-begins _ _ _ _ (c .before .before .before .pre)
 
 mul-next : tie.Need-mul-next Inv-loop μ-loop
 mul-next c = let e = c .before .loop .inv .enough in omega (arith, e .0, e .1, c .loop-test .taken)

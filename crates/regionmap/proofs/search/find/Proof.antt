@@ -12,7 +12,7 @@ abbrev μ-loop : tie.MeasureT-loop
 μ-loop starts count pos lo₀ n₀ lo n = n
 
 loop-holds : tie.Need-loop-holds Inv-loop μ-loop
-loop-holds c = halving-begins (c .before .args .starts .now) (c .before .args .count) (c .before .args .pos) (c .before .pre)
+loop-holds c = halving-begins _ _ _ (c .before .pre)
 
 sub-step : tie.Need-sub-step Inv-loop μ-loop
 sub-step c = omega arith
