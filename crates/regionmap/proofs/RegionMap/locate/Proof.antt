@@ -1,12 +1,14 @@
 -- `regionmap::RegionMap::locate` meets its contract: each return is a case of `locateOf`.
 use Prim.Native.Nat.{ℕ, suc, _+_, _-_, _≤_}
-use mathlib.Core.Bool.{false}
+use mathlib.Core.Bool.{Bool, false}
+use mathlib.Core.List.{List}
 use mathlib.Core.Path.{_≡_, ap, sym, subst, _∙_}
 use native.Mathlib.Omega.{arith}
 use lib.Dec.{ltb}
 use borrow.Author.Needs.{needs}
 use borrow.Author.Tests.{ltb-false}
 use Rattle.numbers.specs.Search.{Found}
+use Rattle.regionmap.specs.declared.RegionMap.{RegionMap}
 use Rattle.regionmap.specs.Map.{placementOf, Valid, runOf}
 use Rattle.regionmap.proofs.Lookup.{Enough, lists-pass, lists-fail, found-end, found-first, found-later, locate-few, locate-past, locate-across, locate-at}
 use Rattle.regionmap.proofs.RegionMap.locate.Statement.{statement}
@@ -26,7 +28,10 @@ in-data : (c : tie.Else2) → ltb (c .before .before .before .before .before .be
 in-data c = sym (c .before .passes .ensures) ∙ c .if2 .left
 
 -- the test of the run's end, which is that of the position's run
-crosses : (c : tie.After-passes2) → Valid (c .before .before .before .before .before .before .before .before .before .args .self) (c .before .before .before .before .before .before .before .before .before .args .starts .now) (c .before .before .before .before .before .before .before .before .before .args .files .now) → ltb (runOf (placementOf (c .before .before .before .before .before .before .before .before .before .args .self) (c .before .before .before .before .before .before .before .before .before .args .starts .now) (c .before .before .before .before .before .before .before .before .before .args .files .now) .runs) (c .before .before .before .before .before .before .before .before .before .args .pos) .start + runOf (placementOf (c .before .before .before .before .before .before .before .before .before .args .self) (c .before .before .before .before .before .before .before .before .before .args .starts .now) (c .before .before .before .before .before .before .before .before .before .args .files .now) .runs) (c .before .before .before .before .before .before .before .before .before .args .pos) .len) (c .before .before .before .before .before .before .before .before .before .args .pos + c .before .before .before .before .before .before .before .before .before .args .n) ≡ c .passes2 .result
+abbrev crossing : RegionMap → List ℕ → List ℕ → ℕ → ℕ → Bool
+crossing m ss fs p n = ltb (runOf (placementOf m ss fs .runs) p .start + runOf (placementOf m ss fs .runs) p .len) (p + n)
+
+crosses : (c : tie.After-passes2) → Valid (c .before .before .before .before .before .before .before .before .before .args .self) (c .before .before .before .before .before .before .before .before .before .args .starts .now) (c .before .before .before .before .before .before .before .before .before .args .files .now) → crossing (c .before .before .before .before .before .before .before .before .before .args .self) (c .before .before .before .before .before .before .before .before .before .args .starts .now) (c .before .before .before .before .before .before .before .before .before .args .files .now) (c .before .before .before .before .before .before .before .before .before .args .pos) (c .before .before .before .before .before .before .before .before .before .args .n) ≡ c .passes2 .result
 crosses c v = ap (λ (e : ℕ). ltb e (c .before .before .before .before .before .before .before .before .before .args .pos + c .before .before .before .before .before .before .before .before .before .args .n)) (found-end _ _ _ v _ _ _ (c .before .before .find .ensures) (c .before .run-end .ensures)) ∙ sym (c .passes2 .ensures)
 
 lists-fail-requires : tie.Need-lists-fail-requires
