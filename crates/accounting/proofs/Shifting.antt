@@ -30,9 +30,6 @@ module _ {rs₀ rs : List TagSpace} {n i : ℕ} (g : Shifting rs₀ n i rs) wher
   abbrev behind : List TagSpace
   behind = take (g .moved) (drop i rs₀) ++ drop (suc n) rs₀
 
-  pub shift-length : length rs ≡ length rs₀
-  shift-length = ap length (g .now) ∙ simp (length-append, length-take, length-drop) (omega (arith, g .all, g .room))
-
   pub shift-on : (j : ℕ) (d : TagSpace) → i ≡ suc j → Shifting rs₀ n j (set rs i (getD rs j d))
   shift-on j d e =
       let h : i < length rs₀ = omega (arith, g .all, g .room) in

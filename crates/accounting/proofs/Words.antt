@@ -209,9 +209,6 @@ module _ (r : TagSpace) where
   pub add-remove : (logical physical : ℕ) → r .logical + logical ≤ top → r .physical + physical ≤ top → removeUsage logical physical (addUsage logical physical r) ≡ r
   add-remove l p h k = let e : stop (r .logical + l) - l ≡ r .logical = omega arith in let f : stop (r .physical + p) - p ≡ r .physical = omega arith in rw (e, f)
 
-  pub reserve-unreserve : (bytes : ℕ) → r .reserved + bytes ≤ top → unreserve bytes (reserve bytes r) ≡ r
-  reserve-unreserve b h = let e : stop (r .reserved + b) - b ≡ r .reserved = omega arith in rw e
-
 module _ (tag : ℕ) (t : Table) where
   -- a rule counts for what it makes of the tag's row
   on-row-by : (rule next : TagSpace → TagSpace) → rule (rowOf tag (t .rows)) ≡ next (rowOf tag (t .rows)) → onRow tag rule t ≡ onRow tag next t
