@@ -3,7 +3,7 @@ use Prim.Native.Nat.{ℕ, suc, _+_, _-_, _≤_, _<_}
 use mathlib.Core.List.{List, _∷_, _++_, append-assoc}
 use mathlib.Core.Path.{_≡_, refl, ap, sym, subst, _∙_}
 use native.Mathlib.Omega.{arith}
-use lib.ListN.{length, getD, take, drop, set, replicate, take-append-drop, length-append, length-take, length-drop, List·getD-append}
+use lib.ListN.{length, getD, take, drop, set, replicate, take-append-drop, length-drop, List·getD-append}
 use lib.Seq.{length-take-le, take-suc, drop-cons, append-snoc, set-at, take-at, take-append-le, drop-append-le, drop-append-add, getD-take}
 use Rattle.accounting.specs.Inner.{shifted}
 use Rattle.accounting.specs.declared.Accounting.{Accounting}

@@ -10,7 +10,7 @@ use lib.ListN.{length, getD}
 use borrow.Author.Tests.{eq-eqb, ne-eqb, not-true, le-ltb}
 use Rattle.freemap.specs.Bytes.{counted, freeOf}
 use Rattle.freemap.specs.Fit.{firstFit, fitRefusal, fitOf}
-use Rattle.freemap.specs.Gaps.{Covered, covered, free, maximal, gapsOf, tailOf, answerOf, freeMapOf, complementFails, Complemented, gapsIn, tooFew}
+use Rattle.freemap.specs.Gaps.{Covered, covered, free, maximal, gapsOf, tailOf, freeMapOf, complementFails, Complemented, gapsIn, tooFew}
 use Rattle.freemap.specs.declared.Complement.the-variants.{Map}
 use Rattle.freemap.specs.declared.FreeMap.{FreeMap}
 use Rattle.numbers.specs.Lists.{All, Any, written}

@@ -26,7 +26,7 @@ use Rattle.numbers.proofs.Order.{in-offset}
 use Rattle.numbers.proofs.Ranges.{end-top}
 use Rattle.settle.proofs.Others.{InTurn, across, across-none, behind-map, behind-reverse, behind-turn, other-append, other-behind, other-map, other-none, other-same, other-sorted}
 use Rattle.settle.proofs.Reading.{length-of, region-of}
-use Rattle.sort.proofs.Laws.{all-sorted, sorted-ascending, sorted-length}
+use Rattle.sort.proofs.Laws.{all-sorted, sorted-ascending}
 
 -- ---- the pieces of regions
 

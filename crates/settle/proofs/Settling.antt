@@ -3,7 +3,7 @@ use Prim.Native.Nat.{ℕ, zero, suc, _+_, _-_, _*_, _≤_, _<_}
 use mathlib.Core.Bool.{Bool, true, false}
 use mathlib.Core.List.{List, [], _∷_}
 use mathlib.Core.Path.{_≡_, refl, ap, sym, _∙_}
-use native.Mathlib.Nat.{le-of-suc-le-suc, not-suc-le-zero}
+use native.Mathlib.Nat.{not-suc-le-zero}
 use native.Mathlib.Omega.{arith}
 use lib.ListN.{length, getD, take, replicate, length-replicate, List·getD-append}
 use lib.Seq.{ext-getD, getD-at, length-take-le}
@@ -11,10 +11,10 @@ use borrow.Author.Tests.{ltb-false}
 use Rattle.numbers.specs.Lists.{written}
 use Rattle.numbers.specs.Refusals.{refuse}
 use Rattle.numbers.specs.Sums.{stop}
-use Rattle.settle.specs.Inner.{Enough, Short, OwnShort, Sized, Struck, firsts, noRegion}
+use Rattle.settle.specs.Inner.{Enough, Short, OwnShort, Sized, Struck, firsts}
 use Rattle.settle.specs.Naming.{outdone}
-use Rattle.settle.specs.Regions.{Lent, Region, regionsOf}
-use Rattle.settle.specs.Settle.{overlapped, superseded, renamed, markOf, marksFrom, marksOf, rangesIn, settleFails, Settled}
+use Rattle.settle.specs.Regions.{Lent, regionsOf}
+use Rattle.settle.specs.Settle.{markOf, marksOf, rangesIn, settleFails, Settled}
 use Rattle.numbers.proofs.Cases.{by-lt, clash, or-false}
 use Rattle.settle.proofs.Marking.{firsts-length, marks-length, mark-at}
 use Rattle.settle.proofs.Namesakes.{renamed-is}

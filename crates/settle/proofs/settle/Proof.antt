@@ -30,7 +30,7 @@ settle-fails-requires : tie.Need-settle-fails-requires
 settle-fails-requires c κs = search needs
 
 returns : tie.Need-returns
-returns c = settled-refused (lent (c .before .before .before .before .before .before .before .before .before .before .before .before .before .before .args .usable) (c .before .before .before .before .before .before .before .before .before .before .before .before .before .before .args .seqs .now) (c .before .before .before .before .before .before .before .before .before .before .before .before .before .before .args .counts .now) (c .before .before .before .before .before .before .before .before .before .before .before .before .before .before .args .ranges .now) (c .before .before .before .before .before .before .before .before .before .before .before .before .before .before .args .lens .now) (c .before .before .before .before .before .before .before .before .before .before .before .before .before .before .args .names .now)) (lent (c .before .before .before .before .before .before .before .before .before .before .before .before .before .before .args .unavailable) (c .before .before .before .before .before .before .before .before .before .before .before .before .before .before .args .own-seqs .now) (c .before .before .before .before .before .before .before .before .before .before .before .before .before .before .args .own-counts .now) (c .before .before .before .before .before .before .before .before .before .before .before .before .before .before .args .own-ranges .now) (c .before .before .before .before .before .before .before .before .before .before .before .before .before .before .args .own-lens .now) (c .before .before .before .before .before .before .before .before .before .before .before .before .before .before .args .own-names .now)) _ _ (sym (c .before .settle-fails .ensures) ∙ c .if1 .taken)
+returns c = settled-refused (lent _ _ _ _ _ _) (lent _ _ _ _ _ _) _ _ (sym (c .before .settle-fails .ensures) ∙ c .if1 .taken)
 
 ranges-in-requires : tie.Need-ranges-in-requires
 ranges-in-requires c κs = ok (c) .ours .counts

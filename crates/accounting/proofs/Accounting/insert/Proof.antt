@@ -24,7 +24,7 @@ returns-2 : tie.Need-returns-2 Inv-loop μ-loop
 returns-2 c = let a = c .before .before .args in sym (inserted-full (a .at) (a .row) (a .t1) (c .if2 .taken))
 
 loop-holds : tie.Need-loop-holds Inv-loop μ-loop
-loop-holds c = let f = full (c .before .before) in insert-begins (c .before .before .args .t1) (c .before .before .args .at) (c .before .before .pre) (omega (arith, f, c .before .if1 .left, c .if2 .left))
+loop-holds c = let f = full (c .before .before) in insert-begins _ _ (c .before .before .pre) (omega (arith, f, c .before .if1 .left, c .if2 .left))
 
 sub-before : tie.Need-sub-before Inv-loop μ-loop
 sub-before c = omega (arith, c .loop-test .taken)

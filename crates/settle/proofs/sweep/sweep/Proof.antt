@@ -29,7 +29,7 @@ slice-aggregate-arrive-2 c = sym (c .before .before .before .before .loop .inv .
 
 arrive-requires : tie.Need-arrive-requires Inv-loop μ-loop
 arrive-requires c κs = let g = c .before .before .before .before .before .before .loop .inv in
-    let o = way-owner (c .before .before .before .before .before .before .before .before .before .before .before .before .args .order .now) (pairs (c .before .before .before .before .before .before .before .before .before .before .before .before .args .facts .now)) _ _ _ _ (c .before .before .before .before .before .before .before .before .before .before .before .before .pre) (c .before .before .before .before .before .before .before .before .before .before .before .before .args .back) _ _ (c .before .before .before .before .next .ensures) (half-in (c .before .before .before .before .before .before .before .before .before .before .before .before .args .order .now) _ _ refl (c .before .before .before .before .before .loop-test .taken)) in
+    let o = way-owner _ (pairs _) _ _ _ _ (c .before .before .before .before .before .before .before .before .before .before .before .before .pre) _ _ _ (c .before .before .before .before .next .ensures) (half-in _ _ _ refl (c .before .before .before .before .before .loop-test .taken)) in
     (g .held-tree, g .own-tree, o .0, o .1, omega (arith, g .marks .over-size, c .before .before .before .before .before .before .before .before .before .before .before .before .pre .over-room), omega (arith, g .marks .under-size, c .before .before .before .before .before .before .before .before .before .before .before .before .pre .under-room))
 
 add-t : tie.Need-add-t Inv-loop μ-loop
@@ -39,7 +39,7 @@ loop-less : tie.Need-loop-less Inv-loop μ-loop
 loop-less c = omega arith
 
 loop-again : tie.Need-loop-again Inv-loop μ-loop
-loop-again c = let w = way-length (c .before .before .before .before .before .before .before .before .before .before .before .before .before .before .before .before .before .before .before .args .order .now) (pairs (c .before .before .before .before .before .before .before .before .before .before .before .before .before .before .before .before .before .before .before .args .facts .now)) _ _ _ _ (c .before .before .before .before .before .before .before .before .before .before .before .before .before .before .before .before .before .before .before .pre) (c .before .before .before .before .before .before .before .before .before .before .before .before .before .before .before .before .before .before .before .args .back) in
+loop-again c = let w = way-length _ (pairs _) _ _ _ _ (c .before .before .before .before .before .before .before .before .before .before .before .before .before .before .before .before .before .before .before .pre) (c .before .before .before .before .before .before .before .before .before .before .before .before .before .before .before .before .before .before .before .args .back) in
     let h = half-in (c .before .before .before .before .before .before .before .before .before .before .before .before .before .before .before .before .before .before .before .args .order .now) _ _ refl (c .before .before .before .before .before .before .before .before .before .before .before .before .loop-test .taken) in
     sweep-on (c .before .before .before .before .before .before .before .before .before .before .before .before .before .loop .inv) _ (c .before .before .before .before .before .before .before .before .before .before .before .next .ensures) (omega arith) (c .before .before .before .before .before .before .arrive .ensures)
 
@@ -50,7 +50,7 @@ same-length-2 : tie.Need-same-length-2 Inv-loop μ-loop
 same-length-2 c = c .before .loop .inv .marks .under-size
 
 returns : tie.Need-returns Inv-loop μ-loop
-returns c = let w = way-length (c .before .before .before .before .before .before .before .args .order .now) (pairs (c .before .before .before .before .before .before .before .args .facts .now)) _ _ _ _ (c .before .before .before .before .before .before .before .pre) (c .before .before .before .before .before .before .before .args .back) in
+returns c = let w = way-length _ (pairs _) _ _ _ _ (c .before .before .before .before .before .before .before .pre) (c .before .before .before .before .before .before .before .args .back) in
     let h = half-out (c .before .before .before .before .before .before .before .args .order .now) _ _ refl (c .loop-test .left) in
     sweep-ends (c .before .loop .inv) (omega arith)
 
