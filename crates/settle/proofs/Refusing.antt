@@ -197,15 +197,12 @@ module _ (us un : Lent) (marks scratch : ℕ) where
         let i : 65536 < rangesIn us + rangesIn un = omega arith in
         simp (lt-ltb _ _ i, or-true)
 
-    pub few-sum : ltb 65536 (a + b) ≡ false → a + b ≤ 65536
-    few-sum f = ltb-false 65536 (a + b) f
-
     -- the last test decides where no other fails
     pub fails-scratch : lentFails false us ≡ false → lentFails true un ≡ false → ltb 65536 (a + b) ≡ false → us .count ≤ marks
         → ltb (scratch / 16) (a + b) ≡ settleFails us un marks scratch
     unfolding settleFails
     fails-scratch f g c m =
-        let h = few-sum c in
+        let h = ltb-false 65536 (a + b) c in
         let i : rangesIn us + rangesIn un ≤ 65536 = omega arith in
         let j : a + b ≡ rangesIn us + rangesIn un = omega arith in
         simp (f, g, le-ltb 65536 (rangesIn us + rangesIn un) i, le-ltb marks (us .count) m, j)

@@ -24,7 +24,7 @@ passed : (c : tie.Else1) → settleFails (ours c) (theirs c) (length (c .before 
 passed c = sym (c .before .settle-fails .ensures) ∙ c .if1 .left
 
 ok : (c : tie.Else1) → Accepted (ours c) (theirs c) (length (c .before .before .before .before .before .before .before .before .before .before .before .before .before .before .args .marks .now)) (length (c .before .before .before .before .before .before .before .before .before .before .before .before .before .before .args .scratch .now))
-ok c = accepted (ours c) (theirs c) (length (c .before .before .before .before .before .before .before .before .before .before .before .before .before .before .args .marks .now)) (length (c .before .before .before .before .before .before .before .before .before .before .before .before .before .before .args .scratch .now)) (passed c)
+ok c = let a = c .before .before .before .before .before .before .before .before .before .before .before .before .before .before .args in accepted (ours c) (theirs c) (length (a .marks .now)) (length (a .scratch .now)) (passed c)
 
 settle-fails-requires : tie.Need-settle-fails-requires
 settle-fails-requires c κs = search needs

@@ -72,7 +72,7 @@ loop-less-2 : tie.Need-loop-less-2 Inv-loop μ-loop
 loop-less-2 c = omega (arith, c .before .before .before .before .before .before .before .before .before .loop-test .taken)
 
 loop-again-2 : tie.Need-loop-again-2 Inv-loop μ-loop
-loop-again-2 c = let a = c .before .before .before .before .before .before .before .before .before .before .before .before .before .before .before .args in counts-known (c .before .before .before .before .before .before .before .before .before .before .loop .inv) _ _ (ready-next (a .block) (a .states .now) (a .tags .now) (a .sizes .now) _ (c .before .before .before .before .before .before .before .before .before .loop-test .taken) (c .before .before .before .before .before .if1 .left)) _ (c .before .before .before .find .ensures) _ (c .before .before .if2 .taken) (c .add-usage .ensures ∙ ap (λ (n : ℕ). addUsage (getD (a .sizes .now) (c .before .before .before .before .before .before .before .before .before .before .loop .i) 0) n (getD (c .before .before .before .before .before .before .before .before .before .before .loop .accounts .rows) (c .before .before .before .find .result .at) (blank 0))) (c .before .before .before .before .extent-len-or .ensures))
+loop-again-2 c = let a = c .before .before .before .before .before .before .before .before .before .before .before .before .before .before .before .args in counts-known (c .before .before .before .before .before .before .before .before .before .before .loop .inv) _ _ (ready-next (a .block) (a .states .now) (a .tags .now) (a .sizes .now) _ (c .before .before .before .before .before .before .before .before .before .loop-test .taken) (c .before .before .before .before .before .if1 .left) _ (c .before .before .before .before .extent-len-or .ensures)) _ (c .before .before .before .find .ensures) _ (c .before .before .if2 .taken) (c .add-usage .ensures)
 
 blank-requires : tie.Need-blank-requires Inv-loop μ-loop
 blank-requires c κs = search needs
@@ -87,13 +87,13 @@ refused-requires : tie.Need-refused-requires Inv-loop μ-loop
 refused-requires c κs = search needs
 
 returns : tie.Need-returns Inv-loop μ-loop
-returns c = let a = c .before .before .before .before .before .before .before .before .before .before .before .before .before .before .before .before .before .before .before .args in rw (c .refused .ensures) (counts-full (c .before .before .before .before .before .before .before .before .before .before .before .before .before .before .loop .inv) _ _ (ready-next (a .block) (a .states .now) (a .tags .now) (a .sizes .now) _ (c .before .before .before .before .before .before .before .before .before .before .before .before .before .loop-test .taken) (c .before .before .before .before .before .before .before .before .before .if1 .left)) _ (c .before .before .before .before .before .before .before .find .ensures) _ (c .before .before .before .before .before .before .if2 .left) (c .before .before .before .before .add-usage2 .ensures ∙ ap (addUsage _ _) (c .before .before .before .before .before .blank .ensures) ∙ ap (λ (n : ℕ). addUsage (getD (a .sizes .now) (c .before .before .before .before .before .before .before .before .before .before .before .before .before .before .loop .i) 0) n (blank (getD (a .tags .now) (c .before .before .before .before .before .before .before .before .before .before .before .before .before .before .loop .i) 0))) (c .before .before .before .before .before .before .before .before .extent-len-or .ensures)) _ (c .before .before .before .insert .ensures) (c .before .if3 .taken))
+returns c = let a = c .before .before .before .before .before .before .before .before .before .before .before .before .before .before .before .before .before .before .before .args in rw (c .refused .ensures) (counts-full (c .before .before .before .before .before .before .before .before .before .before .before .before .before .before .loop .inv) _ _ (ready-next (a .block) (a .states .now) (a .tags .now) (a .sizes .now) _ (c .before .before .before .before .before .before .before .before .before .before .before .before .before .loop-test .taken) (c .before .before .before .before .before .before .before .before .before .if1 .left) _ (c .before .before .before .before .before .before .before .before .extent-len-or .ensures)) _ (c .before .before .before .before .before .before .before .find .ensures) _ (c .before .before .before .before .before .before .if2 .left) (c .before .before .before .before .add-usage2 .ensures ∙ ap (addUsage _ _) (c .before .before .before .before .before .blank .ensures)) _ (c .before .before .before .insert .ensures) (c .before .if3 .taken))
 
 loop-less-3 : tie.Need-loop-less-3 Inv-loop μ-loop
 loop-less-3 c = omega (arith, c .before .before .before .before .before .before .before .before .before .before .before .before .before .loop-test .taken)
 
 loop-again-3 : tie.Need-loop-again-3 Inv-loop μ-loop
-loop-again-3 c = let a = c .before .before .before .before .before .before .before .before .before .before .before .before .before .before .before .before .before .before .before .args in counts-new (c .before .before .before .before .before .before .before .before .before .before .before .before .before .before .loop .inv) _ _ (ready-next (a .block) (a .states .now) (a .tags .now) (a .sizes .now) _ (c .before .before .before .before .before .before .before .before .before .before .before .before .before .loop-test .taken) (c .before .before .before .before .before .before .before .before .before .if1 .left)) _ (c .before .before .before .before .before .before .before .find .ensures) _ (c .before .before .before .before .before .before .if2 .left) (c .before .before .before .before .add-usage2 .ensures ∙ ap (addUsage _ _) (c .before .before .before .before .before .blank .ensures) ∙ ap (λ (n : ℕ). addUsage (getD (a .sizes .now) (c .before .before .before .before .before .before .before .before .before .before .before .before .before .before .loop .i) 0) n (blank (getD (a .tags .now) (c .before .before .before .before .before .before .before .before .before .before .before .before .before .before .loop .i) 0))) (c .before .before .before .before .before .before .before .before .extent-len-or .ensures)) _ (c .before .before .before .insert .ensures) (c .before .if3 .left)
+loop-again-3 c = let a = c .before .before .before .before .before .before .before .before .before .before .before .before .before .before .before .before .before .before .before .args in counts-new (c .before .before .before .before .before .before .before .before .before .before .before .before .before .before .loop .inv) _ _ (ready-next (a .block) (a .states .now) (a .tags .now) (a .sizes .now) _ (c .before .before .before .before .before .before .before .before .before .before .before .before .before .loop-test .taken) (c .before .before .before .before .before .before .before .before .before .if1 .left) _ (c .before .before .before .before .before .before .before .before .extent-len-or .ensures)) _ (c .before .before .before .before .before .before .before .find .ensures) _ (c .before .before .before .before .before .before .if2 .left) (c .before .before .before .before .add-usage2 .ensures ∙ ap (addUsage _ _) (c .before .before .before .before .before .blank .ensures)) _ (c .before .before .before .insert .ensures) (c .before .if3 .left)
 
 returns-2 : tie.Need-returns-2 Inv-loop μ-loop
 returns-2 c = let a = c .before .before .before .before .before .before .args in counts-end (c .before .loop .inv) (ready-end (a .block) (a .states .now) (a .tags .now) (a .sizes .now) _ (c .loop-test .left))
