@@ -7,19 +7,20 @@ use native.Mathlib.Nat.{not-suc-le-zero}
 use native.Mathlib.Omega.{arith}
 use lib.ListN.{length, getD, take, replicate, length-replicate, List·getD-append}
 use lib.Seq.{ext-getD, getD-at, length-take-le}
-use borrow.Author.Tests.{ltb-false}
+use borrow.Author.Tests.{ltb-false, le-ltb}
 use Rattle.numbers.specs.Lists.{written}
+use Rattle.numbers.specs.Pairs.{isOdd}
 use Rattle.numbers.specs.Refusals.{refuse}
-use Rattle.numbers.specs.Sums.{stop}
+use Rattle.numbers.specs.Sums.{stop, sum}
 use Rattle.settle.specs.Inner.{Enough, Short, OwnShort, Sized, Struck, firsts}
 use Rattle.settle.specs.Naming.{outdone}
-use Rattle.settle.specs.Regions.{Lent, regionsOf}
+use Rattle.settle.specs.Regions.{Lent, lent, regions, regionsOf}
 use Rattle.settle.specs.Settle.{markOf, marksOf, rangesIn, settleFails, Settled}
 use Rattle.numbers.proofs.Cases.{by-lt, clash, or-false}
 use Rattle.settle.proofs.Marking.{firsts-length, marks-length, mark-at}
 use Rattle.settle.proofs.Namesakes.{renamed-is}
 use Rattle.settle.proofs.Reading.{length-of}
-use Rattle.settle.proofs.Refusing.{passed, short, own-short}
+use Rattle.settle.proofs.Refusing.{passed, short, own-short, short-passes, own-short-passes}
 
 pub record Accepted (us un : Lent) (marks scratch : ℕ) : Type 0 where
   pub ours : Enough us
@@ -46,6 +47,28 @@ accepted us un marks scratch e =
       room = ltb-false marks (us .count) (b .1);
       space = ltb-false scratch (16 * (rangesIn us + rangesIn un)) (a .1);
     }
+
+-- and the other way round
+pub accepts : (us un : Lent) (marks scratch : ℕ) → Accepted us un marks scratch → settleFails us un marks scratch ≡ false
+unfolding settleFails
+accepts us un marks scratch a =
+    simp (
+      short-passes us (a .ours) (a .names),
+      own-short-passes un (a .theirs) (a .own-names),
+      le-ltb _ _ (a .few),
+      le-ltb _ _ (a .room),
+      le-ltb _ _ (a .space),
+    )
+
+-- lists of no records
+pub none-enough : (seqs counts ranges lens names : List ℕ) → isOdd ranges ≡ false → Enough (lent 0 seqs counts ranges lens names)
+unfolding sum
+none-enough seqs counts ranges lens names e =
+    record { few = omega arith; seqs = omega arith; counts = omega arith; lens = omega arith; names = omega arith; even = e; ranges = omega arith }
+
+pub none-regions : (seqs counts ranges lens names : List ℕ) → regionsOf (lent 0 seqs counts ranges lens names) ≡ []
+unfolding regions
+none-regions seqs counts ranges lens names = refl
 
 pub sized : (g : Lent) → Enough g → Sized (g .count) (g .counts) (g .ranges)
 sized g e = record { few = e .few; counts-in = e .counts; ranges-in = e .ranges }
