@@ -113,7 +113,7 @@ module _ (us un : Lent) {marks scratch : ℕ} (g : Accepted us un marks scratch)
   abbrev pub found : ℕ → ℕ
   found i = markOf (getD over i false) (outdone i (us .count) (us .seqs) (us .lens) (us .names) (un .count) (un .seqs) (un .lens) (un .names)) (getD under i false)
 
-  pub marks-found : firsts found (us .count) ≡ marksOf (regionsOf us) (regionsOf un)
+  marks-found : firsts found (us .count) ≡ marksOf (regionsOf us) (regionsOf un)
   marks-found =
       let l = length-of us in
       let f = firsts-length found (us .count) in
@@ -134,6 +134,13 @@ module _ (us un : Lent) (m₀ s₀ : List ℕ) where
   unfolding refuse
   settled-refused e = record { number = simp e; slots = simp e; kept = λ f. refl }
 
-  pub settled-marked : (m s : List ℕ) → settleFails us un (length m₀) (length s₀) ≡ false → m ≡ written (marksOf (regionsOf us) (regionsOf un)) m₀ → Settled us un m₀ m s₀ s 0
-  unfolding refuse
-  settled-marked m s e w = record { number = simp e; slots = simp e w; kept = λ f. clash f e }
+  module _ (g : Accepted us un (length m₀) (length s₀)) (over under : List Bool) (t : Struck us un over under) where
+    pub settled-marked : (m s : List ℕ) → m ≡ written (firsts (found us un g over under t) (us .count)) m₀ → Settled us un m₀ m s₀ s 0
+    unfolding refuse
+    settled-marked m s w =
+        let e = accepts us un (length m₀) (length s₀) g in
+        record {
+          number = simp e;
+          slots = simp e (w ∙ ap (λ (l : List ℕ). written l m₀) (marks-found us un g over under t));
+          kept = λ f. clash f e;
+        }
