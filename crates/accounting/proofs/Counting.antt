@@ -127,9 +127,9 @@ module _ (ts ls ps : List ℕ) (i : ℕ) where
   usages-end h = rw (drop-of-length-le ts h)
 
 module _ (block : ℕ) (ss ts ns : List ℕ) (i : ℕ) where
-  pub ready-next : i < length ts → getD ss i 0 ≡ 1 → readyUsages block (drop i ss) (drop i ts) (drop i ns) ≡ usage (getD ts i 0) (getD ns i 0) (addedLen (getD ns i 0) block) ∷ readyUsages block (drop (i + 1) ss) (drop (i + 1) ts) (drop (i + 1) ns)
+  pub ready-next : i < length ts → getD ss i 0 ≡ 1 → (bytes : ℕ) → bytes ≡ addedLen (getD ns i 0) block → readyUsages block (drop i ss) (drop i ts) (drop i ns) ≡ usage (getD ts i 0) (getD ns i 0) bytes ∷ readyUsages block (drop (i + 1) ss) (drop (i + 1) ts) (drop (i + 1) ns)
   unfolding readyUsages
-  ready-next h e = rw (from-here ts i h, at-front ss i, at-front ns i, drop-drop 1 i ss, drop-drop 1 i ns, e)
+  ready-next h e bytes b = rw (from-here ts i h, at-front ss i, at-front ns i, drop-drop 1 i ss, drop-drop 1 i ns, e, b)
 
   pub ready-skip : i < length ts → (getD ss i 0 ≡ 1 → ⊥) → readyUsages block (drop i ss) (drop i ts) (drop i ns) ≡ readyUsages block (drop (i + 1) ss) (drop (i + 1) ts) (drop (i + 1) ns)
   unfolding readyUsages

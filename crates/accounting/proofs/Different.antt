@@ -101,7 +101,10 @@ tags-once us = new-once [] us
 
 -- ---- as many rows
 
-rows-new : (seen : List ℕ) (us : List Usage) (t : Table) → InTagOrder (t .rows) → ((n : ℕ) → In n seen → HasRow n (t .rows)) → ((n : ℕ) → HasRow n (t .rows) → In n seen) → length (addAll us t .rows) ≡ length (t .rows) + length (newTags seen us)
+rows-new : (seen : List ℕ) (us : List Usage) (t : Table) → InTagOrder (t .rows)
+    → ((n : ℕ) → In n seen → HasRow n (t .rows))
+    → ((n : ℕ) → HasRow n (t .rows) → In n seen)
+    → length (addAll us t .rows) ≡ length (t .rows) + length (newTags seen us)
 unfolding addAll newTags
 rows-new seen [] t o f g = omega arith
 rows-new seen (u ∷ us) t o f g =

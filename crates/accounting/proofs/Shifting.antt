@@ -3,7 +3,7 @@ use Prim.Native.Nat.{ℕ, suc, _+_, _-_, _≤_, _<_}
 use mathlib.Core.List.{List, _∷_, _++_, append-assoc}
 use mathlib.Core.Path.{_≡_, refl, ap, sym, subst, _∙_}
 use native.Mathlib.Omega.{arith}
-use lib.ListN.{length, getD, take, drop, set, replicate, take-append-drop, length-append, length-take, length-drop, List·getD-append}
+use lib.ListN.{length, getD, take, drop, set, replicate, take-append-drop, length-drop, List·getD-append}
 use lib.Seq.{length-take-le, take-suc, drop-cons, append-snoc, set-at, take-at, take-append-le, drop-append-le, drop-append-add, getD-take}
 use Rattle.accounting.specs.Inner.{shifted}
 use Rattle.accounting.specs.declared.Accounting.{Accounting}
@@ -29,9 +29,6 @@ shift-begins rs₀ n h = record { moved = 0; all = omega arith; room = h; now = 
 module _ {rs₀ rs : List TagSpace} {n i : ℕ} (g : Shifting rs₀ n i rs) where
   abbrev behind : List TagSpace
   behind = take (g .moved) (drop i rs₀) ++ drop (suc n) rs₀
-
-  pub shift-length : length rs ≡ length rs₀
-  shift-length = ap length (g .now) ∙ simp (length-append, length-take, length-drop) (omega (arith, g .all, g .room))
 
   pub shift-on : (j : ℕ) (d : TagSpace) → i ≡ suc j → Shifting rs₀ n j (set rs i (getD rs j d))
   shift-on j d e =

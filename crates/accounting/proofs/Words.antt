@@ -9,7 +9,7 @@ use lib.Dec.{eqb}
 use lib.ListN.{length}
 use borrow.Author.Tests.{eq-eqb, ne-eqb}
 use Rattle.accounting.specs.Entries.{Usage, addAll, noTags, ofTag}
-use Rattle.accounting.specs.Row.{blank, addUsage, removeUsage, reserve, unreserve}
+use Rattle.accounting.specs.Row.{blank, addUsage, removeUsage}
 use Rattle.accounting.specs.Table.{Table, InTagOrder, HasRow, accountsOf, rowOf, put, onRow, same, handed}
 use Rattle.accounting.specs.declared.TagSpace.{TagSpace}
 use Rattle.numbers.specs.Lists.{All, Any}
@@ -208,9 +208,6 @@ module _ (r : TagSpace) where
   -- where no sum stopped, what was added is taken away again
   pub add-remove : (logical physical : ℕ) → r .logical + logical ≤ top → r .physical + physical ≤ top → removeUsage logical physical (addUsage logical physical r) ≡ r
   add-remove l p h k = let e : stop (r .logical + l) - l ≡ r .logical = omega arith in let f : stop (r .physical + p) - p ≡ r .physical = omega arith in rw (e, f)
-
-  pub reserve-unreserve : (bytes : ℕ) → r .reserved + bytes ≤ top → unreserve bytes (reserve bytes r) ≡ r
-  reserve-unreserve b h = let e : stop (r .reserved + b) - b ≡ r .reserved = omega arith in rw e
 
 module _ (tag : ℕ) (t : Table) where
   -- a rule counts for what it makes of the tag's row

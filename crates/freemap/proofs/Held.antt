@@ -2,17 +2,18 @@
 use Prim.Native.Nat.{ℕ, zero, suc, _+_, _-_, _≤_, min, max}
 use mathlib.Core.Bool.{Bool, true, false, _||_}
 use mathlib.Core.List.{List, [], _∷_, _++_}
+use mathlib.Core.Logic.{inl, inr}
 use mathlib.Core.Path.{_≡_, refl, ap, sym, _∙_}
 use native.Mathlib.Omega.{arith}
 use Rattle.freemap.specs.Bytes.{counted}
-use Rattle.freemap.specs.Gaps.{covered, gapsOf}
+use Rattle.freemap.specs.Gaps.{Covered, covered, gapsOf}
 use Rattle.numbers.specs.Lists.{All, any}
 use Rattle.numbers.specs.Range.{Range, endOf, Has, has, Meet, Disjoint, Within, total}
 use Rattle.numbers.specs.Sums.{top, sum}
 use Rattle.freemap.proofs.Words.{covered-true, free-and-covered}
 use Rattle.numbers.proofs.Cases.{cases, by-lt, clash}
-use Rattle.numbers.proofs.Disjoint.{MeetsNone}
-use Rattle.numbers.proofs.Lists.{all-imp, all-none, any-append, or-swap}
+use Rattle.numbers.proofs.Disjoint.{MeetsNone, none-sym, disjoint-without}
+use Rattle.numbers.proofs.Lists.{all-right, any-append, or-swap}
 use Rattle.numbers.proofs.Ranges.{end-exact, has-true, true-has}
 
 -- ---- bytes counted
@@ -55,6 +56,17 @@ covered-with xs y ys b =
     let f : Range → Bool = λ r. has r b in
     any-append f xs (y ∷ ys) ∙ or-swap (any f xs) (f y) (any f ys) ∙ ap (λ (t : Bool). f y || t) (sym (any-append f xs ys))
 
+-- a byte of a range that meets no other is in no other
+none-shared : (y : Range) (rs : List Range) → MeetsNone y rs → (x : ℕ) → Has y x → Covered rs x → ⊥
+none-shared y [] n x h c = c
+none-shared y (r ∷ rs) n x h (inl c) = n .0 (record { byte = x; left = h; right = c })
+none-shared y (r ∷ rs) n x h (inr c) = none-shared y rs (n .1) x h c
+
+-- of ranges of which no two meet, one meets none of the others
+disjoint-middle : (xs : List Range) (y : Range) (ys : List Range) → Disjoint (xs ++ (y ∷ ys)) → MeetsNone y (xs ++ ys)
+disjoint-middle [] y ys d = d .0
+disjoint-middle (x ∷ xs) y ys d = (none-sym x y (all-right (λ (q : Range). Meet x q → ⊥) xs (y ∷ ys) (d .0) .0), disjoint-middle xs y ys (d .1))
+
 module _ (te len : ℕ) (small : len ≤ top) where
   -- The bytes of [table end, length) that some range has.
   abbrev pub held : List Range → ℕ
@@ -68,7 +80,7 @@ module _ (te len : ℕ) (small : len ≤ top) where
         let e = end-exact y (omega arith) in
         let c = range-counted y te (len - te) in
         or-counted (has y) (covered rs) te (len - te)
-        (λ x p q. all-none (λ (r : Range). Has r x) rs (all-imp (λ (r : Range). Meet y r → ⊥) (λ (r : Range). Has r x → ⊥) (λ r d h. d (record { byte = x; left = has-true y x p; right = h })) rs n) (covered-true rs x q))
+        (λ x p q. none-shared y rs n x (has-true y x p) (covered-true rs x q))
         ∙ omega (arith, c, e)
 
     -- with a range that meets no other, as many bytes more are held and fewer are free; without it the other way round
@@ -81,6 +93,19 @@ module _ (te len : ℕ) (small : len ≤ top) where
       pub free-with : total (gapsOf te len (xs ++ (y ∷ ys))) + y .len ≡ total (gapsOf te len (xs ++ ys))
       free-with =
           omega (arith, held-with, free-and-covered te len (xs ++ (y ∷ ys)), free-and-covered te len (xs ++ ys))
+
+  -- the same of several, as the ranges of a region are
+  module _ (xs ys : List Range) where
+    pub held-with-all : (zs : List Range) → All (Within te len) zs → Disjoint (xs ++ (zs ++ ys)) → held (xs ++ (zs ++ ys)) ≡ total zs + held (xs ++ ys)
+    unfolding sum
+    held-with-all [] a d = omega arith
+    held-with-all (z ∷ zs) a d =
+        let i = held-with-all zs (a .1) (disjoint-without xs z (zs ++ ys) d) in
+        held-with z (a .0) xs (zs ++ ys) (disjoint-middle xs z (zs ++ ys) d) ∙ omega arith
+
+    pub free-with-all : (zs : List Range) → All (Within te len) zs → Disjoint (xs ++ (zs ++ ys)) → total (gapsOf te len (xs ++ (zs ++ ys))) + total zs ≡ total (gapsOf te len (xs ++ ys))
+    free-with-all zs a d =
+        omega (arith, held-with-all zs a d, free-and-covered te len (xs ++ (zs ++ ys)), free-and-covered te len (xs ++ ys))
 
   -- ---- ranges of which no two meet have as many bytes as their lengths say
 

@@ -193,7 +193,8 @@ pub record Lowest (te len : ℕ) (rs : List Range) (n align skew : ℕ) (o : Opt
   pub is-none : o ≡ none → (p : ℕ) → FreeSpan te len rs n align skew p → ⊥
   pub none-is : ((p : ℕ) → FreeSpan te len rs n align skew p → ⊥) → o ≡ none
 
-pub fit-lowest : (te len : ℕ) (rs : List Range) (n align skew : ℕ) → 0 < n → 0 < align → len + skew + (align - 1) ≤ top → Lowest te len rs n align skew (firstFit n align skew (gapsOf te len rs))
+pub fit-lowest : (te len : ℕ) (rs : List Range) (n align skew : ℕ) → 0 < n → 0 < align → len + skew + (align - 1) ≤ top
+    → Lowest te len rs n align skew (firstFit n align skew (gapsOf te len rs))
 fit-lowest te len rs n align skew z pos h =
     let small : len ≤ top = omega arith in
     let sums = sums-below te len rs small n align skew h in

@@ -10,7 +10,7 @@ use lib.ListN.{length, getD}
 use borrow.Author.Tests.{eq-eqb, ne-eqb, not-true, le-ltb}
 use Rattle.freemap.specs.Bytes.{counted, freeOf}
 use Rattle.freemap.specs.Fit.{firstFit, fitRefusal, fitOf}
-use Rattle.freemap.specs.Gaps.{Covered, covered, free, maximal, gapsOf, tailOf, answerOf, freeMapOf, complementFails, Complemented, gapsIn, tooFew}
+use Rattle.freemap.specs.Gaps.{Covered, covered, free, maximal, gapsOf, tailOf, freeMapOf, complementFails, Complemented, gapsIn, tooFew}
 use Rattle.freemap.specs.declared.Complement.the-variants.{Map}
 use Rattle.freemap.specs.declared.FreeMap.{FreeMap}
 use Rattle.numbers.specs.Lists.{All, Any, written}
@@ -23,6 +23,7 @@ use Rattle.freemap.proofs.Maximal.{Apart, max-apart, max-has, max-of, m
 use Rattle.freemap.proofs.Ordered.{Spans, Ends, span-in, apart-only}
 use Rattle.numbers.proofs.Answers.{accepted-is}
 use Rattle.numbers.proofs.Cases.{cases, by-eq, by-lt, clash, never}
+use Rattle.numbers.proofs.Disjoint.{MeetsNone}
 use Rattle.numbers.proofs.Lists.{all-imp, all-of, all-at, any-true, of-any, any-of, any-at, any-imp}
 use Rattle.numbers.proofs.Pairs.{written-front, written-places}
 use Rattle.numbers.proofs.Ranges.{has-true, true-has}
@@ -59,9 +60,9 @@ module _ (te len : ℕ) (rs : List Range) (small : len ≤ top) where
   gap-free b h = let m = max-of (free rs) te (len - te) b h in let l = m .0 in let u = m .1 in (l, omega arith, free-true rs b (m .2))
 
   -- no gap meets a range
-  pub gaps-meet-none : All (λ (g : Range). All (λ (r : Range). Meet g r → ⊥) rs) (gapsOf te len rs)
+  pub gaps-meet-none : All (λ (g : Range). MeetsNone g rs) (gapsOf te len rs)
   gaps-meet-none =
-      all-of (λ (g : Range). All (λ (r : Range). Meet g r → ⊥) rs) (gapsOf te len rs) blank
+      all-of (λ (g : Range). MeetsNone g rs) (gapsOf te len rs) blank
       (λ i h.
       all-of (λ (r : Range). Meet (getD (gapsOf te len rs) i blank) r → ⊥) rs blank
       (λ j k m.
@@ -152,7 +153,10 @@ tail-only te rs t g =
     let h = tail-greatest te rs in
     le-antisymm (greatest-le te rs rs _ _ (λ a. a) g h) (greatest-le te rs rs _ _ (λ a. a) h g)
 
-pub tail-same : (te : ℕ) (rs qs : List Range) → ((t : ℕ) → Any (EndsAt t) rs → Any (EndsAt t) qs) → ((t : ℕ) → Any (EndsAt t) qs → Any (EndsAt t) rs) → tailOf te rs ≡ tailOf te qs
+pub tail-same : (te : ℕ) (rs qs : List Range)
+    → ((t : ℕ) → Any (EndsAt t) rs → Any (EndsAt t) qs)
+    → ((t : ℕ) → Any (EndsAt t) qs → Any (EndsAt t) rs)
+    → tailOf te rs ≡ tailOf te qs
 tail-same te rs qs f g =
     let a = tail-greatest te rs in
     let b = tail-greatest te qs in

@@ -19,7 +19,8 @@ bytesOf (Refused n) = refused n
 abbrev pub freeOf : FreeMap → List ℕ → Answer ℕ
 freeOf m gs = answer (refuse 1 (tooFew m gs)) (stop (total (gapsIn m gs)))
 
--- How many of the n bytes from b on pass a test; `free-counted` and `free-and-covered` (proofs/Words) count free bytes and others.
+-- How many of the n bytes from b on pass a test; `free-counted` and `free-and-covered` (proofs/Words) count free bytes and others,
+-- `held-and-free` (proofs/Held) those of ranges of which no two meet.
 unfoldable pub counted : (ℕ → Bool) → ℕ → ℕ → ℕ
 counted f b zero = 0
 counted f b (suc n) = cond (f b) (suc (counted f (suc b) n)) (counted f (suc b) n)

@@ -26,7 +26,8 @@ skipped align skew g = ltb top (g .offset + skew + (align - 1))
 unfoldable pub allows : ℕ → ℕ → ℕ → Range → Bool
 allows len align skew g = not (skipped align skew g) && leb (placeIn align skew g + len) (endOf g)
 
--- "in the first gap that allows it"; `first-fit` and `no-fit` (proofs/Places) say that it is the least place of all.
+-- "in the first gap that allows it"; `fit-lowest` (proofs/Places) says that it is the least free span of all, and none
+-- exactly where there is none.
 unfoldable pub firstFit : ℕ → ℕ → ℕ → List Range → Option ℕ
 firstFit len align skew [] = none
 firstFit len align skew (g ∷ gs) = cond (allows len align skew g) (some (placeIn align skew g)) (firstFit len align skew gs)

@@ -76,8 +76,11 @@ mark-superseded false false false = refl
 
 -- it is 0 exactly where none holds
 pub mark-none : (o r s : Bool) → markOf o r s ≡ 0 → (o ≡ false) × (r ≡ false) × (s ≡ false)
-mark-none o r s e =
-    (sym (mark-overlapped o r s) ∙ ap (λ (n : ℕ). eqb (n % 2) 1) e, sym (mark-renamed o r s) ∙ ap (λ (n : ℕ). eqb (n / 2 % 2) 1) e, sym (mark-superseded o r s) ∙ ap (λ (n : ℕ). eqb (n / 4) 1) e)
+mark-none o r s e = (
+  sym (mark-overlapped o r s) ∙ ap (λ (n : ℕ). eqb (n % 2) 1) e,
+  sym (mark-renamed o r s) ∙ ap (λ (n : ℕ). eqb (n / 2 % 2) 1) e,
+  sym (mark-superseded o r s) ∙ ap (λ (n : ℕ). eqb (n / 4) 1) e,
+)
 
 pub none-mark : (o r s : Bool) → o ≡ false → r ≡ false → s ≡ false → markOf o r s ≡ 0
 none-mark o r s a b c = simp (a, b, c)

@@ -26,7 +26,7 @@ use Rattle.numbers.proofs.Order.{in-offset}
 use Rattle.numbers.proofs.Ranges.{end-top}
 use Rattle.settle.proofs.Others.{InTurn, across, across-none, behind-map, behind-reverse, behind-turn, other-append, other-behind, other-map, other-none, other-same, other-sorted}
 use Rattle.settle.proofs.Reading.{length-of, region-of}
-use Rattle.sort.proofs.Laws.{all-sorted, sorted-ascending, sorted-length}
+use Rattle.sort.proofs.Laws.{all-sorted, sorted-ascending}
 
 -- ---- the pieces of regions
 
@@ -147,12 +147,6 @@ module _ (ps : List Piece) (order facts : List Range) (o : Ordered ps order fact
 
   pieces-end : All (λ (x : Piece). endOf (x .range) ≤ top) ps
   pieces-end = all-of (λ (x : Piece). endOf (x .range) ≤ top) ps noPiece (λ k h. end-top (getD ps k noPiece .range))
-
-  pub items-end : All (λ (x : Item). x .end ≤ top) (itemsOf order facts)
-  items-end = items-all (λ (x : Item). x .end ≤ top) pieces-end
-
-  pub items-length : length (itemsOf order facts) ≡ length ps
-  items-length = length-map order (itemAt facts) ∙ ap length (o .sort) ∙ sorted-length (o .starts) ∙ o .size
 
   pub order-places : All (λ (p : Range). p .len < length ps) order
   order-places =

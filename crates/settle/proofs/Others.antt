@@ -110,10 +110,6 @@ module _ {A : Type 0} where
   InTurn R [] = Unit {0}
   InTurn R (x ∷ xs) = All (R x) xs × InTurn R xs
 
-  pub turn-all : (P : A → Type 0) (l : List A) → All P l → InTurn (λ (x y : A). P x × P y) l
-  turn-all P [] a = tt
-  turn-all P (x ∷ xs) a = (all-imp P (λ (y : A). P x × P y) (λ y p. (a .0, p)) xs (a .1), turn-all P xs (a .1))
-
   module _ (f g : A → A → Bool) where
     -- tests that agree on each element and each one in front of it
     pub behind-turn : (R : A → A → Type 0) → ((x y : A) → R x y → f y x ≡ g y x) → (l : List A) → InTurn R l → behind f l ≡ behind g l
@@ -122,9 +118,6 @@ module _ {A : Type 0} where
     behind-turn R e (x ∷ xs) a = rw (any-same (λ (y : A). f y x) (R x) (λ (y : A). g y x) (e x) xs (a .0), behind-turn R e xs (a .1))
 
     module _ (P : A → Type 0) (e : (x y : A) → P x → P y → f x y ≡ g x y) where
-      pub behind-same : (l : List A) → All P l → behind f l ≡ behind g l
-      behind-same l a = behind-turn (λ (x y : A). P x × P y) (λ x y p. e y x (p .1) (p .0)) l (turn-all P l a)
-
       pub other-same : (l : List A) → All P l → anyOther f l ≡ anyOther g l
       unfolding anyOther
       other-same [] a = refl
@@ -144,9 +137,6 @@ module _ {A : Type 0} where
   other-behind f (x ∷ l) =
       rw (other-behind f l, or-comm (any (f x) l) (any (λ (y : A). f y x) l))
       (or-exchange (any (λ (y : A). f y x) l) (any (f x) l) (behind f l) (behind (λ (y x : A). f x y) l))
-
-  pub other-split : (f : A → A → Bool) (l : List A) → anyOther f l ≡ (behind f l || behind f (reverse l))
-  other-split f l = other-behind f l ∙ rw behind-reverse
 
   pub other-map : {B : Type 0} (f : B → B → Bool) (h : A → B) (l : List A) → anyOther f (map h l) ≡ anyOther (λ (x y : A). f (h x) (h y)) l
   unfolding anyOther

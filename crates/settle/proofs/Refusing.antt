@@ -1,15 +1,15 @@
 -- Refusal 1: what the tests on counts and lists have found.
 use Prim.Native.Nat.{ℕ, _+_, _*_, _/_, _%_, _≤_, _<_}
-use mathlib.Core.Bool.{Bool, true, false, not, _&&_, or-true}
+use mathlib.Core.Bool.{Bool, true, false, not, _&&_, and-false, or-true}
 use mathlib.Core.List.{List, [], _∷_}
-use mathlib.Core.Logic.{_⊎_, inl, inr}
+use mathlib.Core.Logic.{_⊎_, inl, inr, ⊎-elim}
 use mathlib.Core.Path.{_≡_, ap, sym, _∙_}
 use native.Mathlib.Numerals.{add-one}
 use native.Mathlib.Omega.{arith}
 use lib.Dec.{eqb, ltb}
 use lib.ListN.{length, getD, take}
 use lib.Seq.{getD-take, length-take-le, take-suc}
-use borrow.Author.Tests.{le-ltb, lt-ltb, ltb-true, ltb-false, eqb-true}
+use borrow.Author.Tests.{le-ltb, lt-ltb, ltb-true, ltb-false, eqb-true, eq-eqb}
 use Rattle.numbers.specs.Lists.{All, any}
 use Rattle.numbers.specs.Pairs.{pairs}
 use Rattle.numbers.specs.Sums.{top, stop, sum}
@@ -127,13 +127,24 @@ module _ (unnamed : Bool) (g : Lent) where
       simp (lt-ltb _ _ i, or-true)
 
   -- the last test decides where no other fails
+  pub enough-long : Enough g → any (tooLong unnamed) (take (g .count) (g .lens)) ≡ lentFails unnamed g
+  unfolding lentFails
+  enough-long h =
+      simp (
+        le-ltb _ _ (h .few),
+        le-ltb _ _ (h .seqs),
+        le-ltb _ _ (h .counts),
+        le-ltb _ _ (h .lens),
+        le-ltb _ _ (h .names),
+        h .even,
+        le-ltb _ _ (h .ranges),
+      )
+
   pub fails-long : g .count ≤ 1024 → g .count ≤ length (g .seqs) → g .count ≤ length (g .counts) → g .count ≤ length (g .lens) → 24 * g .count ≤ length (g .names)
       → length (g .ranges) % 2 ≡ 0 → length (g .ranges) < top → stop (rangesIn g) ≤ length (g .ranges) / 2 → any (tooLong unnamed) (take (g .count) (g .lens)) ≡ lentFails unnamed g
-  unfolding lentFails
   fails-long a b c d e f s h =
       let l = length-pairs (g .ranges) in
-      let i : rangesIn g ≤ length (pairs (g .ranges)) = omega arith in
-      simp (le-ltb 1024 (g .count) a, le-ltb (length (g .seqs)) (g .count) b, le-ltb (length (g .counts)) (g .count) c, le-ltb (length (g .lens)) (g .count) d, le-ltb (length (g .names)) (24 * g .count) e, even-list (g .ranges) f, le-ltb (length (pairs (g .ranges))) (rangesIn g) i)
+      enough-long (record { few = a; seqs = b; counts = c; lens = d; names = e; even = even-list (g .ranges) f; ranges = omega arith })
 
   -- ---- what it means that none of them fails
 
@@ -158,6 +169,21 @@ module _ (unnamed : Bool) (g : Lent) where
         },
         any-false (tooLong unnamed) (take (g .count) (g .lens)) (a .1),
       )
+
+-- and the other way round
+pub short-passes : (g : Lent) → Enough g → Short g → lentFails false g ≡ false
+unfolding tooLong
+short-passes g h s =
+    sym (enough-long false g h)
+    ∙ of-none (tooLong false) _ (all-imp (λ (n : ℕ). n ≤ 24) (λ (n : ℕ). tooLong false n ≡ false) (λ n l. simp (le-ltb 24 n l)) (take (g .count) (g .lens)) s)
+
+pub own-short-passes : (g : Lent) → Enough g → OwnShort g → lentFails true g ≡ false
+unfolding tooLong
+own-short-passes g h s =
+    sym (enough-long true g h)
+    ∙ of-none (tooLong true) _
+    (all-imp (λ (n : ℕ). (n ≤ 24) ⊎ (n ≡ 255)) (λ (n : ℕ). tooLong true n ≡ false)
+    (λ n. ⊎-elim (λ l. simp (le-ltb 24 n l)) (λ e. simp (eq-eqb n 255 e, and-false))) (take (g .count) (g .lens)) s)
 
 pub short : (g : Lent) → lentFails false g ≡ false → Short g
 unfolding tooLong
@@ -197,15 +223,12 @@ module _ (us un : Lent) (marks scratch : ℕ) where
         let i : 65536 < rangesIn us + rangesIn un = omega arith in
         simp (lt-ltb _ _ i, or-true)
 
-    pub few-sum : ltb 65536 (a + b) ≡ false → a + b ≤ 65536
-    few-sum f = ltb-false 65536 (a + b) f
-
     -- the last test decides where no other fails
     pub fails-scratch : lentFails false us ≡ false → lentFails true un ≡ false → ltb 65536 (a + b) ≡ false → us .count ≤ marks
         → ltb (scratch / 16) (a + b) ≡ settleFails us un marks scratch
     unfolding settleFails
     fails-scratch f g c m =
-        let h = few-sum c in
+        let h = ltb-false 65536 (a + b) c in
         let i : rangesIn us + rangesIn un ≤ 65536 = omega arith in
         let j : a + b ≡ rangesIn us + rangesIn un = omega arith in
         simp (f, g, le-ltb 65536 (rangesIn us + rangesIn un) i, le-ltb marks (us .count) m, j)

@@ -3,23 +3,24 @@ use Prim.Native.Nat.{ℕ, zero, suc, _+_, _-_, _*_, _≤_, _<_}
 use mathlib.Core.Bool.{Bool, true, false}
 use mathlib.Core.List.{List, [], _∷_}
 use mathlib.Core.Path.{_≡_, refl, ap, sym, _∙_}
-use native.Mathlib.Nat.{le-of-suc-le-suc, not-suc-le-zero}
+use native.Mathlib.Nat.{not-suc-le-zero}
 use native.Mathlib.Omega.{arith}
 use lib.ListN.{length, getD, take, replicate, length-replicate, List·getD-append}
 use lib.Seq.{ext-getD, getD-at, length-take-le}
-use borrow.Author.Tests.{ltb-false}
+use borrow.Author.Tests.{ltb-false, le-ltb}
 use Rattle.numbers.specs.Lists.{written}
+use Rattle.numbers.specs.Pairs.{isOdd}
 use Rattle.numbers.specs.Refusals.{refuse}
-use Rattle.numbers.specs.Sums.{stop}
-use Rattle.settle.specs.Inner.{Enough, Short, OwnShort, Sized, Struck, firsts, noRegion}
+use Rattle.numbers.specs.Sums.{stop, sum}
+use Rattle.settle.specs.Inner.{Enough, Short, OwnShort, Sized, Struck, firsts}
 use Rattle.settle.specs.Naming.{outdone}
-use Rattle.settle.specs.Regions.{Lent, Region, regionsOf}
-use Rattle.settle.specs.Settle.{overlapped, superseded, renamed, markOf, marksFrom, marksOf, rangesIn, settleFails, Settled}
+use Rattle.settle.specs.Regions.{Lent, lent, regions, regionsOf}
+use Rattle.settle.specs.Settle.{markOf, marksOf, rangesIn, settleFails, Settled}
 use Rattle.numbers.proofs.Cases.{by-lt, clash, or-false}
 use Rattle.settle.proofs.Marking.{firsts-length, marks-length, mark-at}
 use Rattle.settle.proofs.Namesakes.{renamed-is}
 use Rattle.settle.proofs.Reading.{length-of}
-use Rattle.settle.proofs.Refusing.{passed, short, own-short}
+use Rattle.settle.proofs.Refusing.{passed, short, own-short, short-passes, own-short-passes}
 
 pub record Accepted (us un : Lent) (marks scratch : ℕ) : Type 0 where
   pub ours : Enough us
@@ -46,6 +47,28 @@ accepted us un marks scratch e =
       room = ltb-false marks (us .count) (b .1);
       space = ltb-false scratch (16 * (rangesIn us + rangesIn un)) (a .1);
     }
+
+-- and the other way round
+pub accepts : (us un : Lent) (marks scratch : ℕ) → Accepted us un marks scratch → settleFails us un marks scratch ≡ false
+unfolding settleFails
+accepts us un marks scratch a =
+    simp (
+      short-passes us (a .ours) (a .names),
+      own-short-passes un (a .theirs) (a .own-names),
+      le-ltb _ _ (a .few),
+      le-ltb _ _ (a .room),
+      le-ltb _ _ (a .space),
+    )
+
+-- lists of no records
+pub none-enough : (seqs counts ranges lens names : List ℕ) → isOdd ranges ≡ false → Enough (lent 0 seqs counts ranges lens names)
+unfolding sum
+none-enough seqs counts ranges lens names e =
+    record { few = omega arith; seqs = omega arith; counts = omega arith; lens = omega arith; names = omega arith; even = e; ranges = omega arith }
+
+pub none-regions : (seqs counts ranges lens names : List ℕ) → regionsOf (lent 0 seqs counts ranges lens names) ≡ []
+unfolding regions
+none-regions seqs counts ranges lens names = refl
 
 pub sized : (g : Lent) → Enough g → Sized (g .count) (g .counts) (g .ranges)
 sized g e = record { few = e .few; counts-in = e .counts; ranges-in = e .ranges }
@@ -90,7 +113,7 @@ module _ (us un : Lent) {marks scratch : ℕ} (g : Accepted us un marks scratch)
   abbrev pub found : ℕ → ℕ
   found i = markOf (getD over i false) (outdone i (us .count) (us .seqs) (us .lens) (us .names) (un .count) (un .seqs) (un .lens) (un .names)) (getD under i false)
 
-  pub marks-found : firsts found (us .count) ≡ marksOf (regionsOf us) (regionsOf un)
+  marks-found : firsts found (us .count) ≡ marksOf (regionsOf us) (regionsOf un)
   marks-found =
       let l = length-of us in
       let f = firsts-length found (us .count) in
@@ -111,6 +134,13 @@ module _ (us un : Lent) (m₀ s₀ : List ℕ) where
   unfolding refuse
   settled-refused e = record { number = simp e; slots = simp e; kept = λ f. refl }
 
-  pub settled-marked : (m s : List ℕ) → settleFails us un (length m₀) (length s₀) ≡ false → m ≡ written (marksOf (regionsOf us) (regionsOf un)) m₀ → Settled us un m₀ m s₀ s 0
-  unfolding refuse
-  settled-marked m s e w = record { number = simp e; slots = simp e w; kept = λ f. clash f e }
+  module _ (g : Accepted us un (length m₀) (length s₀)) (over under : List Bool) (t : Struck us un over under) where
+    pub settled-marked : (m s : List ℕ) → m ≡ written (firsts (found us un g over under t) (us .count)) m₀ → Settled us un m₀ m s₀ s 0
+    unfolding refuse
+    settled-marked m s w =
+        let e = accepts us un (length m₀) (length s₀) g in
+        record {
+          number = simp e;
+          slots = simp e (w ∙ ap (λ (l : List ℕ). written l m₀) (marks-found us un g over under t));
+          kept = λ f. clash f e;
+        }

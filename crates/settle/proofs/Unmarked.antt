@@ -1,5 +1,5 @@
 -- What it means that no region is marked: no two ranges of the usable regions meet, and no two have one name.
-use Prim.Native.Nat.{ℕ, suc, _≤_, _<_}
+use Prim.Native.Nat.{ℕ, suc, _<_}
 use mathlib.Core.Bool.{Bool, false, not, _&&_, _||_, or-assoc, or-false as or-none}
 use mathlib.Core.List.{List, [], _∷_, _++_, map, map-append, append-assoc}
 use mathlib.Core.Path.{_≡_, refl, ap, sym, _∙_}
@@ -23,7 +23,7 @@ use Rattle.settle.proofs.Marking.{mark-at, mark-none, none-mark}
 use Rattle.settle.proofs.Meeting.{Of, pieces-of}
 use Rattle.settle.proofs.Namesakes.{alike, named, others-by-index, renamed-others}
 use Rattle.settle.proofs.Naming.{same-true, true-same, below-of, below-true}
-use Rattle.settle.proofs.Words.{overlapped-true, overlap-true, superseded-true}
+use Rattle.settle.proofs.Words.{Overlap, overlapped-true, overlap-true, superseded-true}
 
 -- ---- no range meets another
 
@@ -55,16 +55,20 @@ module _ (us : List Region) where
   pub range-at : (k : ℕ) → k < length (pieces us) → getD (rangesOf us) k blank ≡ getD (pieces us) k noPiece .range
   range-at k h = ap (λ (l : List Range). getD l k blank) (sym (pieces-ranges 0 us)) ∙ mapped-at (λ (x : Piece). x .range) (pieces us) k noPiece blank h
 
-  owner-in : (j : ℕ) → j < length (pieces us) → getD (pieces us) j noPiece .region < length us
+  abbrev nth : ℕ → Piece
+  nth j = getD (pieces us) j noPiece
+
+  owner-in : (j : ℕ) → j < length (pieces us) → nth j .region < length us
   owner-in j h = let o = all-at (Of us 0) (pieces us) j noPiece (pieces-of us 0) h in omega (arith, o .inside, o .region)
 
-  -- one region: none of its ranges meets another, and if it is not overlapped, none of no lower number
-  pub alone-unmarked : (i : ℕ) → ((j k : ℕ) → j < length (pieces us) → k < length (pieces us) → (j ≡ k → ⊥) → getD (pieces us) j noPiece .region ≡ i → Meet (getD (pieces us) j noPiece .range) (getD (pieces us) k noPiece .range) → ⊥) → overlapped us i ≡ false
+  -- one region: it is overlapped only where one of its ranges meets another, and then always if that one's number is not lower
+  pub alone-unmarked : (i : ℕ)
+      → ((j k : ℕ) → j < length (pieces us) → k < length (pieces us) → (j ≡ k → ⊥) → nth j .region ≡ i → Meet (nth j .range) (nth k .range) → ⊥)
+      → overlapped us i ≡ false
   alone-unmarked i f = never _ (λ e. let o = overlapped-true us i e in f (o .range) (o .another) (o .inside) (o .inside′) (o .apart) (o .own) (o .meet))
 
-  pub unmarked-alone : (j k : ℕ) → overlapped us (getD (pieces us) j noPiece .region) ≡ false → j < length (pieces us) → k < length (pieces us) → (j ≡ k → ⊥) → getD (pieces us) j noPiece .seq ≤ getD (pieces us) k noPiece .seq → Meet (getD (pieces us) j noPiece .range) (getD (pieces us) k noPiece .range) → ⊥
-  unmarked-alone j k e a b d l m =
-      clash (overlap-true us _ (record { range = j; another = k; inside = a; inside′ = b; apart = d; own = refl; number = l; meet = m })) e
+  pub unmarked-alone : (i : ℕ) → overlapped us i ≡ false → Overlap us i → ⊥
+  unmarked-alone i e o = clash (overlap-true us i o) e
 
   -- all regions
   pub unmarked-disjoint : ((i : ℕ) → i < length us → overlapped us i ≡ false) → Disjoint (rangesOf us)
@@ -76,9 +80,13 @@ module _ (us : List Region) where
       let b : k < length (pieces us) = omega arith in
       rw (range-at j a, range-at k b)
       (λ m.
-      by-lt (getD (pieces us) k noPiece .seq) (getD (pieces us) j noPiece .seq)
-      (λ s. unmarked-alone k j (f _ (owner-in k b)) b a (λ e. omega arith) (omega arith) (meet-sym _ _ m))
-      (λ s. unmarked-alone j k (f _ (owner-in j a)) a b (λ e. omega arith) s m)))
+      by-lt (nth k .seq) (nth j .seq)
+      (λ s.
+      unmarked-alone _ (f _ (owner-in k b))
+      (record { range = k; another = j; inside = b; inside′ = a; apart = λ e. omega arith; own = refl; number = omega arith; meet = meet-sym _ _ m }))
+      (λ s.
+      unmarked-alone _ (f _ (owner-in j a))
+      (record { range = j; another = k; inside = a; inside′ = b; apart = λ e. omega arith; own = refl; number = s; meet = m }))))
 
   pub disjoint-unmarked : Disjoint (rangesOf us) → (i : ℕ) → overlapped us i ≡ false
   disjoint-unmarked d i =
@@ -109,7 +117,9 @@ module _ (us un : List Region) (i : ℕ) (h : i < length us) where
 
 module _ (us : List Region) where
   module _ (i : ℕ) (h : i < length us) where
-    pub lower-unmarked : ((j : ℕ) → j < length us → (j ≡ i → ⊥) → getD us j noRegion .name ≡ getD us i noRegion .name → getD us j noRegion .seq < getD us i noRegion .seq) → renamed us [] (getD us i noRegion) ≡ false
+    pub lower-unmarked :
+        ((j : ℕ) → j < length us → (j ≡ i → ⊥) → getD us j noRegion .name ≡ getD us i noRegion .name → getD us j noRegion .seq < getD us i noRegion .seq)
+        → renamed us [] (getD us i noRegion) ≡ false
     unfolding any
     lower-unmarked f =
         renamed-at us [] i h ∙ or-none _
@@ -145,9 +155,10 @@ module _ (us : List Region) where
 
   -- the marks are all 0 exactly where no two ranges meet and no two names are the same
   pub marks-none : ((i : ℕ) → i < length us → getD (marksOf us []) i 0 ≡ 0) → Disjoint (rangesOf us) × NamesDiffer
-  marks-none f =
-      let m : (i : ℕ) → (h : i < length us) → (overlapped us i ≡ false) × (renamed us [] (getD us i noRegion) ≡ false) × (superseded us [] i ≡ false) = λ i h. mark-none _ _ _ (sym (mark-at us [] i h) ∙ f i h) in
-      (unmarked-disjoint us (λ i h. m i h .0), unmarked-names [] (λ i h. m i h .1))
+  marks-none f = (unmarked-disjoint us (λ i h. unset i h .0), unmarked-names [] (λ i h. unset i h .1))
+    where
+      unset : (i : ℕ) → i < length us → (overlapped us i ≡ false) × (renamed us [] (getD us i noRegion) ≡ false) × (superseded us [] i ≡ false)
+      unset i h = mark-none _ _ _ (sym (mark-at us [] i h) ∙ f i h)
 
   pub none-marks : Disjoint (rangesOf us) → NamesDiffer → (i : ℕ) → i < length us → getD (marksOf us []) i 0 ≡ 0
   none-marks d n i h = mark-at us [] i h ∙ none-mark _ _ _ (disjoint-unmarked us d i) (names-unmarked n i h) (none-superseded i)

@@ -55,7 +55,8 @@ renamed us un r =
     any (λ (q : Region). ltb (r .seq) (q .seq)) (namesakes us un r)
     || ltb 1 (length (keep (λ (q : Region). eqb (q .seq) (highest (namesakes us un r))) (namesakes us un r)))
 
--- A mark as a number: 1 for overlapped, 2 for renamed, 4 for superseded.
+-- A mark as a number: 1 for overlapped, 2 for renamed, 4 for superseded. `mark-at` (proofs/Marking) says which mark stands at
+-- a place, `marks-none` and `none-marks` (proofs/Unmarked) when all are 0.
 abbrev pub markOf : Bool → Bool → Bool → ℕ
 markOf o r s = cond o 1 0 + cond r 2 0 + cond s 4 0
 

@@ -1,4 +1,6 @@
-// The pairs of a slice: read and written.
+// The pairs of a slice: read and written. `sort` has the same two functions: what a crate lends to
+// another requires nothing, and to test each place took a tenth of the time of settling 65,536
+// identical ranges.
 ghost use mathlib.Core.Path.{_≡_};
 ghost use Prim.Native.Nat.{_<_};
 ghost use lib.ListN.{length, getD, set};

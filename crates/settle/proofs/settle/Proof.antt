@@ -1,36 +1,30 @@
 -- `settle::settle` meets its contract: behind the refusal every list is long enough.
 use Prim.Native.Nat.{ℕ}
 use mathlib.Core.Bool.{false}
-use mathlib.Core.List.{List}
-use mathlib.Core.Path.{_≡_, refl, sym, _∙_, ap}
+use mathlib.Core.Path.{refl, sym, _∙_}
 use native.Mathlib.Omega.{arith}
 use lib.ListN.{length}
 use borrow.Author.Needs.{needs}
-use Rattle.numbers.specs.Lists.{written}
 use Rattle.settle.specs.Regions.{lent, Lent}
-use Rattle.settle.specs.Settle.{settleFails}
 use Rattle.settle.proofs.Namesakes.{listed, short-at}
-use Rattle.settle.proofs.Settling.{Accepted, accepted, sized, array-room, array-more, part-size, count-first, count-all, count-few, count-space, marks-found, settled-refused, settled-marked}
+use Rattle.settle.proofs.Settling.{Accepted, accepted, sized, array-room, array-more, part-size, count-first, count-all, count-few, count-space, settled-refused, settled-marked}
 use Rattle.settle.proofs.settle.Statement.{statement}
 use Rattle.settle.proofs.settle.Tie as tie
 
 abbrev ours : (c : tie.Else1) → Lent
-ours c = (lent (c .before .before .before .before .before .before .before .before .before .before .before .before .before .before .args .usable) (c .before .before .before .before .before .before .before .before .before .before .before .before .before .before .args .seqs .now) (c .before .before .before .before .before .before .before .before .before .before .before .before .before .before .args .counts .now) (c .before .before .before .before .before .before .before .before .before .before .before .before .before .before .args .ranges .now) (c .before .before .before .before .before .before .before .before .before .before .before .before .before .before .args .lens .now) (c .before .before .before .before .before .before .before .before .before .before .before .before .before .before .args .names .now))
+ours c = let a = c .before .before .before .before .before .before .before .before .before .before .before .before .before .before .args in lent (a .usable) (a .seqs .now) (a .counts .now) (a .ranges .now) (a .lens .now) (a .names .now)
 
 abbrev theirs : (c : tie.Else1) → Lent
-theirs c = (lent (c .before .before .before .before .before .before .before .before .before .before .before .before .before .before .args .unavailable) (c .before .before .before .before .before .before .before .before .before .before .before .before .before .before .args .own-seqs .now) (c .before .before .before .before .before .before .before .before .before .before .before .before .before .before .args .own-counts .now) (c .before .before .before .before .before .before .before .before .before .before .before .before .before .before .args .own-ranges .now) (c .before .before .before .before .before .before .before .before .before .before .before .before .before .before .args .own-lens .now) (c .before .before .before .before .before .before .before .before .before .before .before .before .before .before .args .own-names .now))
-
-passed : (c : tie.Else1) → settleFails (ours c) (theirs c) (length (c .before .before .before .before .before .before .before .before .before .before .before .before .before .before .args .marks .now)) (length (c .before .before .before .before .before .before .before .before .before .before .before .before .before .before .args .scratch .now)) ≡ false
-passed c = sym (c .before .settle-fails .ensures) ∙ c .if1 .left
+theirs c = let a = c .before .before .before .before .before .before .before .before .before .before .before .before .before .before .args in lent (a .unavailable) (a .own-seqs .now) (a .own-counts .now) (a .own-ranges .now) (a .own-lens .now) (a .own-names .now)
 
 ok : (c : tie.Else1) → Accepted (ours c) (theirs c) (length (c .before .before .before .before .before .before .before .before .before .before .before .before .before .before .args .marks .now)) (length (c .before .before .before .before .before .before .before .before .before .before .before .before .before .before .args .scratch .now))
-ok c = accepted (ours c) (theirs c) (length (c .before .before .before .before .before .before .before .before .before .before .before .before .before .before .args .marks .now)) (length (c .before .before .before .before .before .before .before .before .before .before .before .before .before .before .args .scratch .now)) (passed c)
+ok c = accepted (ours c) (theirs c) _ _ (sym (c .before .settle-fails .ensures) ∙ c .if1 .left)
 
 settle-fails-requires : tie.Need-settle-fails-requires
 settle-fails-requires c κs = search needs
 
 returns : tie.Need-returns
-returns c = settled-refused (lent (c .before .before .before .before .before .before .before .before .before .before .before .before .before .before .args .usable) (c .before .before .before .before .before .before .before .before .before .before .before .before .before .before .args .seqs .now) (c .before .before .before .before .before .before .before .before .before .before .before .before .before .before .args .counts .now) (c .before .before .before .before .before .before .before .before .before .before .before .before .before .before .args .ranges .now) (c .before .before .before .before .before .before .before .before .before .before .before .before .before .before .args .lens .now) (c .before .before .before .before .before .before .before .before .before .before .before .before .before .before .args .names .now)) (lent (c .before .before .before .before .before .before .before .before .before .before .before .before .before .before .args .unavailable) (c .before .before .before .before .before .before .before .before .before .before .before .before .before .before .args .own-seqs .now) (c .before .before .before .before .before .before .before .before .before .before .before .before .before .before .args .own-counts .now) (c .before .before .before .before .before .before .before .before .before .before .before .before .before .before .args .own-ranges .now) (c .before .before .before .before .before .before .before .before .before .before .before .before .before .before .args .own-lens .now) (c .before .before .before .before .before .before .before .before .before .before .before .before .before .before .args .own-names .now)) _ _ (sym (c .before .settle-fails .ensures) ∙ c .if1 .taken)
+returns c = settled-refused (lent _ _ _ _ _ _) (lent _ _ _ _ _ _) _ _ (sym (c .before .settle-fails .ensures) ∙ c .if1 .taken)
 
 ranges-in-requires : tie.Need-ranges-in-requires
 ranges-in-requires c κs = ok (c) .ours .counts
@@ -106,8 +100,7 @@ same-length-2 c = search needs
 
 returns-2 : tie.Need-returns-2
 returns-2 c = let a = c .before .before .before .before .before .before .before .before .before .before .before .before .before .before .before .before .before .before .before .before .before .before .before .before .before .before .before .before .before .before .before .before .before .before .before .before .before .before .args in
-    settled-marked (ours (c .before .before .before .before .before .before .before .before .before .before .before .before .before .before .before .before .before .before .before .before .before .before .before .before)) (theirs (c .before .before .before .before .before .before .before .before .before .before .before .before .before .before .before .before .before .before .before .before .before .before .before .before)) _ _ _ _ (passed (c .before .before .before .before .before .before .before .before .before .before .before .before .before .before .before .before .before .before .before .before .before .before .before .before))
-    (c .before .before .write-marks .ensures ∙ ap (λ (l : List ℕ). written l (a .marks .now)) (marks-found (ours (c .before .before .before .before .before .before .before .before .before .before .before .before .before .before .before .before .before .before .before .before .before .before .before .before)) (theirs (c .before .before .before .before .before .before .before .before .before .before .before .before .before .before .before .before .before .before .before .before .before .before .before .before)) (ok (c .before .before .before .before .before .before .before .before .before .before .before .before .before .before .before .before .before .before .before .before .before .before .before .before)) _ _ (c .before .before .before .before .before .before .before .before .before .before .before .before .before .before .before .before .before .before .strike .ensures (a .lens .now) (a .names .now) (a .own-lens .now) (a .own-names .now))))
+    settled-marked _ _ _ _ (ok (c .before .before .before .before .before .before .before .before .before .before .before .before .before .before .before .before .before .before .before .before .before .before .before .before)) _ _ (c .before .before .before .before .before .before .before .before .before .before .before .before .before .before .before .before .before .before .strike .ensures (a .lens .now) (a .names .now) (a .own-lens .now) (a .own-names .now)) _ _ (c .before .before .write-marks .ensures)
 
 pub settle-spec : {M : Type 1} → statement M
 settle-spec =

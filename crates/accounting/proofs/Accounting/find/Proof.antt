@@ -22,10 +22,10 @@ unfolding tagsOf
 full c = length-map (c .args .t1 .rows) (λ (r : TagSpace). r .tag) ∙ simp length-map at (c .good .0 .1 .1 .0 .1 .0 .1)
 
 returns : tie.Need-returns Inv-loop μ-loop
-returns c = sought-none (c .before .args .t1) (c .before .args .tag) (c .if1 .taken)
+returns c = sought-none _ _ (c .if1 .taken)
 
 loop-holds : tie.Need-loop-holds Inv-loop μ-loop
-loop-holds c = let f = full (c .before) in halving-begins (tagsOf (c .before .args .t1)) (c .before .args .t1 .count) (c .before .args .tag) (omega (arith, f, c .if1 .left))
+loop-holds c = let f = full (c .before) in halving-begins (tagsOf (c .before .args .t1)) _ _ (omega (arith, f, c .if1 .left))
 
 sub-step : tie.Need-sub-step Inv-loop μ-loop
 sub-step c = omega arith
@@ -49,7 +49,7 @@ loop-less : tie.Need-loop-less Inv-loop μ-loop
 loop-less c = omega (arith, c .before .loop-test .taken)
 
 loop-again : tie.Need-loop-again Inv-loop μ-loop
-loop-again c = let l = c .before .before .loop in halving-on (l .inv) (c .before .loop-test .taken) (omega (arith, c .before .before .before .if1 .left)) _ (rw (tag-at (c .before .before .before .before .args .t1) (l .lo + (l .n - l .n / 2) - 1)) (c .advance .ensures))
+loop-again c = let l = c .before .before .loop in halving-on (l .inv) (c .before .loop-test .taken) (omega (arith, c .before .before .before .if1 .left)) _ (rw (tag-at _ (l .lo + (l .n - l .n / 2) - 1)) (c .advance .ensures))
 
 sub-if3 : tie.Need-sub-if3 Inv-loop μ-loop
 sub-if3 c = omega (arith, c .if2 .taken)
@@ -64,13 +64,13 @@ sub-t22 : tie.Need-sub-t22 Inv-loop μ-loop
 sub-t22 c = omega (arith, c .before .if2 .taken)
 
 returns-2 : tie.Need-returns-2 Inv-loop μ-loop
-returns-2 c = sought-row (c .before .before .before .before .before .args .t1) (c .before .before .before .before .before .args .tag) (c .before .before .before .before .if1 .left) (c .before .before .before .loop .lo) (halving-ends (c .before .before .before .loop .inv) (c .before .before .loop-test .left)) (c .before .if2 .taken) (c .if3 .taken)
+returns-2 c = sought-row _ _ (c .before .before .before .before .if1 .left) _ (halving-ends (c .before .before .before .loop .inv) (c .before .before .loop-test .left)) (c .before .if2 .taken) (c .if3 .taken)
 
 returns-3 : tie.Need-returns-3 Inv-loop μ-loop
-returns-3 c = sought-place (c .before .before .before .before .before .args .t1) (c .before .before .before .before .before .args .tag) (c .before .before .before .before .if1 .left) (c .before .before .before .loop .lo) (halving-ends (c .before .before .before .loop .inv) (c .before .before .loop-test .left)) (λ h. c .if3 .left)
+returns-3 c = sought-place _ _ (c .before .before .before .before .if1 .left) _ (halving-ends (c .before .before .before .loop .inv) (c .before .before .loop-test .left)) (λ h. c .if3 .left)
 
 returns-4 : tie.Need-returns-4 Inv-loop μ-loop
-returns-4 c = sought-place (c .before .before .before .before .args .t1) (c .before .before .before .before .args .tag) (c .before .before .before .if1 .left) (c .before .before .loop .lo) (halving-ends (c .before .before .loop .inv) (c .before .loop-test .left)) (λ h e. omega (arith, h, c .if2 .left))
+returns-4 c = sought-place _ _ (c .before .before .before .if1 .left) _ (halving-ends (c .before .before .loop .inv) (c .before .loop-test .left)) (λ h e. omega (arith, h, c .if2 .left))
 
 pub find-spec : {M : Type 1} → statement M
 find-spec =

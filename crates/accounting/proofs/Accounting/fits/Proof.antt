@@ -18,7 +18,7 @@ fits-requires : tie.Need-fits-requires
 fits-requires c κs = search needs
 
 returns : tie.Need-returns
-returns c = let a = c .before .before .before .before .args in asks-known (a .t1) (a .tag) (a .extra) (c .before .before .before .find .result) (c .before .before .before .find .ensures) (c .before .before .if1 .taken) (c .fits2 .result) (c .fits2 .ensures)
+returns c = asks-known _ _ _ _ (c .before .before .before .find .ensures) (c .before .before .if1 .taken) _ (c .fits2 .ensures)
 
 blank-requires : tie.Need-blank-requires
 blank-requires c κs = search needs
@@ -27,7 +27,7 @@ insert-requires : tie.Need-insert-requires
 insert-requires c κs = c .before .before .find .ensures .inside
 
 returns-2 : tie.Need-returns-2
-returns-2 c = let a = c .before .before .before .before .before .before .args in asks-unknown (a .t1) (a .tag) (a .extra) (c .before .before .before .before .before .find .result) (c .before .before .before .before .before .find .ensures) (c .before .before .before .before .if1 .left) (c .before .before .before .blank .result) (c .before .before .before .blank .ensures) (c .before .before .insert .result) (c .before .before .insert .ensures)
+returns-2 c = asks-unknown _ _ _ _ (c .before .before .before .before .before .find .ensures) (c .before .before .before .before .if1 .left) _ (c .before .before .before .blank .ensures) _ (c .before .before .insert .ensures)
 
 pub fits-spec : {M : Type 1} → statement M
 fits-spec =

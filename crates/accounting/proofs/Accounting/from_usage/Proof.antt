@@ -9,19 +9,19 @@ refused-requires : tie.Need-refused-requires
 refused-requires c κs = search needs
 
 returns : tie.Need-returns
-returns c = let a = c .before .before .before .before .before .args in counts-bad (differ-second (a .tags .now) (a .logical .now) (a .physical .now) (c .before .if1 .taken)) (c .refused .ensures)
+returns c = counts-bad (differ-second _ _ _ (c .before .if1 .taken)) (c .refused .ensures)
 
 refused-requires-2 : tie.Need-refused-requires-2
 refused-requires-2 c κs = search needs
 
 returns-2 : tie.Need-returns-2
-returns-2 c = let a = c .before .before .before .before .before .before .args in counts-bad (differ-third (a .tags .now) (a .logical .now) (a .physical .now) (c .before .if2 .taken)) (c .refused2 .ensures)
+returns-2 c = counts-bad (differ-third _ _ _ (c .before .if2 .taken)) (c .refused2 .ensures)
 
 count-usage-requires : tie.Need-count-usage-requires
 count-usage-requires c κs = (sym (c .before .if1 .left), sym (c .if2 .left))
 
 returns-3 : tie.Need-returns-3
-returns-3 c = let a = c .before .before .before .before .before .before .args in counts-good (differ-none (a .tags .now) (a .logical .now) (a .physical .now) (c .before .before .if1 .left) (c .before .if2 .left)) (c .count-usage .ensures)
+returns-3 c = counts-good (differ-none _ _ _ (c .before .before .if1 .left) (c .before .if2 .left)) (c .count-usage .ensures)
 
 pub from-usage-spec : {M : Type 1} → statement M
 from-usage-spec =

@@ -18,13 +18,13 @@ full : (c : tie.Start Inv-loop μ-loop) → length (c .args .t1 .rows) ≡ 96
 full c = simp length-map at (c .good .0 .1 .1 .0 .1 .0 .1)
 
 returns : tie.Need-returns Inv-loop μ-loop
-returns c = let a = c .before .args in sym (inserted-many (a .at) (a .row) (a .t1) (c .if1 .taken))
+returns c = sym (inserted-many _ _ _ (c .if1 .taken))
 
 returns-2 : tie.Need-returns-2 Inv-loop μ-loop
-returns-2 c = let a = c .before .before .args in sym (inserted-full (a .at) (a .row) (a .t1) (c .if2 .taken))
+returns-2 c = sym (inserted-full _ _ _ (c .if2 .taken))
 
 loop-holds : tie.Need-loop-holds Inv-loop μ-loop
-loop-holds c = let f = full (c .before .before) in insert-begins (c .before .before .args .t1) (c .before .before .args .at) (c .before .before .pre) (omega (arith, f, c .before .if1 .left, c .if2 .left))
+loop-holds c = let f = full (c .before .before) in insert-begins _ _ (c .before .before .pre) (omega (arith, f, c .before .if1 .left, c .if2 .left))
 
 sub-before : tie.Need-sub-before Inv-loop μ-loop
 sub-before c = omega (arith, c .loop-test .taken)
@@ -60,7 +60,7 @@ add-self : tie.Need-add-self Inv-loop μ-loop
 add-self c = omega (arith, c .before .before .before .before .pre, c .before .before .before .if1 .left, c .before .before .if2 .left)
 
 returns-3 : tie.Need-returns-3 Inv-loop μ-loop
-returns-3 c = let a = c .before .before .before .before .args in rw (insert-ends (c .before .loop .inv) (a .row) (c .loop-test .left), c .before .loop .inv .reserved) (sym (inserted-room (a .at) (a .row) (a .t1) (omega (arith, c .before .before .before .if1 .left, c .before .before .if2 .left))))
+returns-3 c = rw (insert-ends (c .before .loop .inv) _ (c .loop-test .left), c .before .loop .inv .reserved) (sym (inserted-room _ _ _ (omega (arith, c .before .before .before .if1 .left, c .before .before .if2 .left))))
 
 pub insert-spec : {M : Type 1} → statement M
 insert-spec =

@@ -26,7 +26,7 @@ element-set-from-self : tie.Need-element-set-from-self
 element-set-from-self c = let h = c .before .before .before .find .ensures .few (c .before .before .if1 .taken) in omega (arith, h .0, h .1)
 
 returns : tie.Need-returns
-returns c = let a = c .before .before .before .before .args in posts-known (a .t1) (a .tag) (c .before .before .before .find .result) (c .before .before .before .find .ensures) (posted (a .posting)) (posted-keeps (a .posting)) (c .posted .result) (c .before .before .if1 .taken) (c .posted .ensures)
+returns c = posts-known _ _ _ (c .before .before .before .find .ensures) (posted _) (posted-keeps _) _ (c .before .before .if1 .taken) (c .posted .ensures)
 
 blank-requires : tie.Need-blank-requires
 blank-requires c κs = search needs
@@ -38,7 +38,7 @@ insert-requires : tie.Need-insert-requires
 insert-requires c κs = c .before .before .before .find .ensures .inside
 
 returns-2 : tie.Need-returns-2
-returns-2 c = let a = c .before .before .before .before .before .args in posts-unknown (a .t1) (a .tag) (c .before .before .before .before .find .result) (c .before .before .before .before .find .ensures) (posted (a .posting)) (posted-keeps (a .posting)) (c .before .posted2 .result) (c .before .before .before .if1 .left) (c .before .posted2 .ensures ∙ ap (posted (a .posting)) (c .before .before .blank .ensures)) (c .insert .result) (c .insert .ensures)
+returns-2 c = posts-unknown _ _ _ (c .before .before .before .before .find .ensures) (posted _) (posted-keeps _) _ (c .before .before .before .if1 .left) (c .before .posted2 .ensures ∙ ap (posted _) (c .before .before .blank .ensures)) _ (c .insert .ensures)
 
 pub post-spec : {M : Type 1} → statement M
 post-spec =

@@ -14,14 +14,14 @@ post-requires c κs = search needs
 
 returns : tie.Need-returns
 unfolding posted reserving tableOf
-returns c = total-kept (c .before .before .before .args .self) (onRow (c .before .before .before .args .tag) (reserve (c .before .before .before .args .bytes))) (λ (t : Table). stop (t .total + c .before .before .before .args .bytes)) (c .before .before .post .result) (c .before .before .post .ensures) (on-row-order (c .before .before .before .args .tag) (reserve (c .before .before .before .args .bytes))) (c .if1 .taken)
+returns c = total-kept _ (onRow _ (reserve _)) (λ (t : Table). stop (t .total + c .before .before .before .args .bytes)) _ (c .before .before .post .ensures) (on-row-order _ (reserve _)) (c .if1 .taken)
 
 add-stop-requires : tie.Need-add-stop-requires
 add-stop-requires c κs = search needs
 
 returns-2 : tie.Need-returns-2
 unfolding posted reserving tableOf
-returns-2 c = total-posted (c .before .before .before .before .before .args .self) (onRow (c .before .before .before .before .before .args .tag) (reserve (c .before .before .before .before .before .args .bytes))) (λ (t : Table). stop (t .total + c .before .before .before .before .before .args .bytes)) (c .before .before .before .before .post .result) (c .before .before .before .before .post .ensures) (on-row-order (c .before .before .before .before .before .args .tag) (reserve (c .before .before .before .before .before .args .bytes))) (c .before .before .if1 .left) (c .add-stop .result) (λ v. c .add-stop .ensures)
+returns-2 c = total-posted _ (onRow _ (reserve _)) (λ (t : Table). stop (t .total + c .before .before .before .before .before .args .bytes)) _ (c .before .before .before .before .post .ensures) (on-row-order _ (reserve _)) (c .before .before .if1 .left) _ (λ v. c .add-stop .ensures)
 
 pub reserve-spec : {M : Type 1} → statement M
 reserve-spec = tie.close (tie.spec post-requires returns add-stop-requires returns-2)

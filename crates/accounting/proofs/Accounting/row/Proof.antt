@@ -16,13 +16,13 @@ element-copy-out-result : tie.Need-element-copy-out-result
 element-copy-out-result c = let h = c .before .find .ensures .few (c .if1 .taken) in omega (arith, h .0, h .1)
 
 returns : tie.Need-returns
-returns c = λ v. sym (found-row (c .before .before .before .args .t1) v (c .before .before .before .args .tag) (c .before .before .find .result) (c .before .before .find .ensures) (c .before .if1 .taken))
+returns c = λ v. sym (found-row _ v _ _ (c .before .before .find .ensures) (c .before .if1 .taken))
 
 blank-requires : tie.Need-blank-requires
 blank-requires c κs = search needs
 
 returns-2 : tie.Need-returns-2
-returns-2 c = λ v. c .blank .ensures ∙ sym (no-row (c .before .before .before .args .t1) v (c .before .before .before .args .tag) (c .before .before .find .result) (c .before .before .find .ensures) (c .before .if1 .left))
+returns-2 c = λ v. c .blank .ensures ∙ sym (no-row _ v _ _ (c .before .before .find .ensures) (c .before .if1 .left))
 
 pub row-spec : {M : Type 1} → statement M
 row-spec =

@@ -12,13 +12,13 @@ element-copy-out-result : tie.Need-element-copy-out-result
 element-copy-out-result c = search needs
 
 returns : tie.Need-returns
-returns c = λ v. row-of-record (c .before .before .args .t1) v (c .before .before .args .i)
+returns c = λ v. row-of-record _ v _
 
 blank-requires : tie.Need-blank-requires
 blank-requires c κs = search needs
 
 returns-2 : tie.Need-returns-2
-returns-2 c = λ v. c .blank .ensures ∙ sym (row-behind-all (c .before .before .args .t1) v (c .before .before .args .i) (c .before .if1 .left))
+returns-2 c = λ v. c .blank .ensures ∙ sym (row-behind-all _ v _ (c .before .if1 .left))
 
 pub row-at-spec : {M : Type 1} → statement M
 row-at-spec =

@@ -13,14 +13,14 @@ post-requires c κs = search needs
 
 returns : tie.Need-returns
 unfolding posted unreserving tableOf
-returns c = total-kept (c .before .before .before .args .self) (onRow (c .before .before .before .args .tag) (unreserve (c .before .before .before .args .bytes))) (λ (t : Table). t .total - c .before .before .before .args .bytes) (c .before .before .post .result) (c .before .before .post .ensures) (on-row-order (c .before .before .before .args .tag) (unreserve (c .before .before .before .args .bytes))) (c .if1 .taken)
+returns c = total-kept _ (onRow _ (unreserve _)) (λ (t : Table). t .total - c .before .before .before .args .bytes) _ (c .before .before .post .ensures) (on-row-order _ (unreserve _)) (c .if1 .taken)
 
 sub-stop-requires : tie.Need-sub-stop-requires
 sub-stop-requires c κs = search needs
 
 returns-2 : tie.Need-returns-2
 unfolding posted unreserving tableOf
-returns-2 c = total-posted (c .before .before .before .before .before .args .self) (onRow (c .before .before .before .before .before .args .tag) (unreserve (c .before .before .before .before .before .args .bytes))) (λ (t : Table). t .total - c .before .before .before .before .before .args .bytes) (c .before .before .before .before .post .result) (c .before .before .before .before .post .ensures) (on-row-order (c .before .before .before .before .before .args .tag) (unreserve (c .before .before .before .before .before .args .bytes))) (c .before .before .if1 .left) (c .sub-stop .result) (λ v. c .sub-stop .ensures)
+returns-2 c = total-posted _ (onRow _ (unreserve _)) (λ (t : Table). t .total - c .before .before .before .before .before .args .bytes) _ (c .before .before .before .before .post .ensures) (on-row-order _ (unreserve _)) (c .before .before .if1 .left) _ (λ v. c .sub-stop .ensures)
 
 pub unreserve-spec : {M : Type 1} → statement M
 unreserve-spec = tie.close (tie.spec post-requires returns sub-stop-requires returns-2)

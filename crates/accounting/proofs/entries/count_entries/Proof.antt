@@ -1,9 +1,9 @@
 -- `accounting::entries::count_entries` meets its contract: some Ready entries counted, the rest to come.
-use Prim.Native.Nat.{ℕ, _-_}
+use Prim.Native.Nat.{_-_}
 use mathlib.Core.List.{List}
 use mathlib.Core.Path.{ap, subst, _∙_}
 use native.Mathlib.Omega.{arith}
-use lib.ListN.{getD, length, drop}
+use lib.ListN.{length, drop}
 use borrow.Author.Needs.{needs}
 use Rattle.accounting.specs.Entries.{Usage, readyUsages}
 use Rattle.accounting.specs.Row.{blank, addUsage}
@@ -21,7 +21,7 @@ empty-requires : tie.Need-empty-requires Inv-loop μ-loop
 empty-requires c κs = search needs
 
 loop-holds : tie.Need-loop-holds Inv-loop μ-loop
-loop-holds c = counts-begin _ (c .empty .result) (c .empty .ensures .0)
+loop-holds c = counts-begin _ _ (c .empty .ensures .0)
 
 shared-slice-read-state : tie.Need-shared-slice-read-state Inv-loop μ-loop
 shared-slice-read-state c = let h = c .before .before .before .before .before .before .before .pre in omega (arith, h .0, c .before .loop-test .taken)
@@ -45,7 +45,7 @@ loop-less : tie.Need-loop-less Inv-loop μ-loop
 loop-less c = omega (arith, c .before .before .before .before .loop-test .taken)
 
 loop-again : tie.Need-loop-again Inv-loop μ-loop
-loop-again c = let a = c .before .before .before .before .before .before .before .before .before .before .args in let l = c .before .before .before .before .before .loop in subst (λ (us : List Usage). Counting (readyUsages (a .block) (a .states .now) (a .tags .now) (a .sizes .now)) us (l .accounts)) (ready-skip (a .block) (a .states .now) (a .tags .now) (a .sizes .now) (l .i) (c .before .before .before .before .loop-test .taken) (c .if1 .taken)) (l .inv)
+loop-again c = let a = c .before .before .before .before .before .before .before .before .before .before .args in let l = c .before .before .before .before .before .loop in subst (λ (us : List Usage). Counting (readyUsages (a .block) (a .states .now) (a .tags .now) (a .sizes .now)) us (l .accounts)) (ready-skip _ _ _ _ (l .i) (c .before .before .before .before .loop-test .taken) (c .if1 .taken)) (l .inv)
 
 extent-len-or-requires : tie.Need-extent-len-or-requires Inv-loop μ-loop
 extent-len-or-requires c κs = search needs
@@ -72,7 +72,7 @@ loop-less-2 : tie.Need-loop-less-2 Inv-loop μ-loop
 loop-less-2 c = omega (arith, c .before .before .before .before .before .before .before .before .before .loop-test .taken)
 
 loop-again-2 : tie.Need-loop-again-2 Inv-loop μ-loop
-loop-again-2 c = let a = c .before .before .before .before .before .before .before .before .before .before .before .before .before .before .before .args in counts-known (c .before .before .before .before .before .before .before .before .before .before .loop .inv) _ _ (ready-next (a .block) (a .states .now) (a .tags .now) (a .sizes .now) (c .before .before .before .before .before .before .before .before .before .before .loop .i) (c .before .before .before .before .before .before .before .before .before .loop-test .taken) (c .before .before .before .before .before .if1 .left)) (c .before .before .before .find .result) (c .before .before .before .find .ensures) (c .add-usage .result) (c .before .before .if2 .taken) (c .add-usage .ensures ∙ ap (λ (n : ℕ). addUsage (getD (a .sizes .now) (c .before .before .before .before .before .before .before .before .before .before .loop .i) 0) n (getD (c .before .before .before .before .before .before .before .before .before .before .loop .accounts .rows) (c .before .before .before .find .result .at) (blank 0))) (c .before .before .before .before .extent-len-or .ensures))
+loop-again-2 c = counts-known (c .before .before .before .before .before .before .before .before .before .before .loop .inv) _ _ (ready-next _ _ _ _ _ (c .before .before .before .before .before .before .before .before .before .loop-test .taken) (c .before .before .before .before .before .if1 .left) _ (c .before .before .before .before .extent-len-or .ensures)) _ (c .before .before .before .find .ensures) _ (c .before .before .if2 .taken) (c .add-usage .ensures)
 
 blank-requires : tie.Need-blank-requires Inv-loop μ-loop
 blank-requires c κs = search needs
@@ -87,16 +87,16 @@ refused-requires : tie.Need-refused-requires Inv-loop μ-loop
 refused-requires c κs = search needs
 
 returns : tie.Need-returns Inv-loop μ-loop
-returns c = let a = c .before .before .before .before .before .before .before .before .before .before .before .before .before .before .before .before .before .before .before .args in rw (c .refused .ensures) (counts-full (c .before .before .before .before .before .before .before .before .before .before .before .before .before .before .loop .inv) _ _ (ready-next (a .block) (a .states .now) (a .tags .now) (a .sizes .now) (c .before .before .before .before .before .before .before .before .before .before .before .before .before .before .loop .i) (c .before .before .before .before .before .before .before .before .before .before .before .before .before .loop-test .taken) (c .before .before .before .before .before .before .before .before .before .if1 .left)) (c .before .before .before .before .before .before .before .find .result) (c .before .before .before .before .before .before .before .find .ensures) (c .before .before .before .before .add-usage2 .result) (c .before .before .before .before .before .before .if2 .left) (c .before .before .before .before .add-usage2 .ensures ∙ ap (addUsage _ _) (c .before .before .before .before .before .blank .ensures) ∙ ap (λ (n : ℕ). addUsage (getD (a .sizes .now) (c .before .before .before .before .before .before .before .before .before .before .before .before .before .before .loop .i) 0) n (blank (getD (a .tags .now) (c .before .before .before .before .before .before .before .before .before .before .before .before .before .before .loop .i) 0))) (c .before .before .before .before .before .before .before .before .extent-len-or .ensures)) (c .before .before .before .insert .result) (c .before .before .before .insert .ensures) (c .before .if3 .taken))
+returns c = rw (c .refused .ensures) (counts-full (c .before .before .before .before .before .before .before .before .before .before .before .before .before .before .loop .inv) _ _ (ready-next _ _ _ _ _ (c .before .before .before .before .before .before .before .before .before .before .before .before .before .loop-test .taken) (c .before .before .before .before .before .before .before .before .before .if1 .left) _ (c .before .before .before .before .before .before .before .before .extent-len-or .ensures)) _ (c .before .before .before .before .before .before .before .find .ensures) _ (c .before .before .before .before .before .before .if2 .left) (c .before .before .before .before .add-usage2 .ensures ∙ ap (addUsage _ _) (c .before .before .before .before .before .blank .ensures)) _ (c .before .before .before .insert .ensures) (c .before .if3 .taken))
 
 loop-less-3 : tie.Need-loop-less-3 Inv-loop μ-loop
 loop-less-3 c = omega (arith, c .before .before .before .before .before .before .before .before .before .before .before .before .before .loop-test .taken)
 
 loop-again-3 : tie.Need-loop-again-3 Inv-loop μ-loop
-loop-again-3 c = let a = c .before .before .before .before .before .before .before .before .before .before .before .before .before .before .before .before .before .before .before .args in counts-new (c .before .before .before .before .before .before .before .before .before .before .before .before .before .before .loop .inv) _ _ (ready-next (a .block) (a .states .now) (a .tags .now) (a .sizes .now) (c .before .before .before .before .before .before .before .before .before .before .before .before .before .before .loop .i) (c .before .before .before .before .before .before .before .before .before .before .before .before .before .loop-test .taken) (c .before .before .before .before .before .before .before .before .before .if1 .left)) (c .before .before .before .before .before .before .before .find .result) (c .before .before .before .before .before .before .before .find .ensures) (c .before .before .before .before .add-usage2 .result) (c .before .before .before .before .before .before .if2 .left) (c .before .before .before .before .add-usage2 .ensures ∙ ap (addUsage _ _) (c .before .before .before .before .before .blank .ensures) ∙ ap (λ (n : ℕ). addUsage (getD (a .sizes .now) (c .before .before .before .before .before .before .before .before .before .before .before .before .before .before .loop .i) 0) n (blank (getD (a .tags .now) (c .before .before .before .before .before .before .before .before .before .before .before .before .before .before .loop .i) 0))) (c .before .before .before .before .before .before .before .before .extent-len-or .ensures)) (c .before .before .before .insert .result) (c .before .before .before .insert .ensures) (c .before .if3 .left)
+loop-again-3 c = counts-new (c .before .before .before .before .before .before .before .before .before .before .before .before .before .before .loop .inv) _ _ (ready-next _ _ _ _ _ (c .before .before .before .before .before .before .before .before .before .before .before .before .before .loop-test .taken) (c .before .before .before .before .before .before .before .before .before .if1 .left) _ (c .before .before .before .before .before .before .before .before .extent-len-or .ensures)) _ (c .before .before .before .before .before .before .before .find .ensures) _ (c .before .before .before .before .before .before .if2 .left) (c .before .before .before .before .add-usage2 .ensures ∙ ap (addUsage _ _) (c .before .before .before .before .before .blank .ensures)) _ (c .before .before .before .insert .ensures) (c .before .if3 .left)
 
 returns-2 : tie.Need-returns-2 Inv-loop μ-loop
-returns-2 c = let a = c .before .before .before .before .before .before .args in counts-end (c .before .loop .inv) (ready-end (a .block) (a .states .now) (a .tags .now) (a .sizes .now) (c .before .loop .i) (c .loop-test .left))
+returns-2 c = counts-end (c .before .loop .inv) (ready-end _ _ _ _ _ (c .loop-test .left))
 
 pub count-entries-spec : {M : Type 1} → statement M
 count-entries-spec =

@@ -20,7 +20,7 @@ empty-requires : tie.Need-empty-requires Inv-loop μ-loop
 empty-requires c κs = search needs
 
 loop-holds : tie.Need-loop-holds Inv-loop μ-loop
-loop-holds c = counts-begin _ (c .empty .result) (c .empty .ensures .0)
+loop-holds c = counts-begin _ _ (c .empty .ensures .0)
 
 mul-tag : tie.Need-mul-tag Inv-loop μ-loop
 mul-tag c = search needs
@@ -65,7 +65,7 @@ loop-less : tie.Need-loop-less Inv-loop μ-loop
 loop-less c = omega (arith, c .before .before .before .before .before .before .before .loop-test .taken)
 
 loop-again : tie.Need-loop-again Inv-loop μ-loop
-loop-again c = let a = c .before .before .before .before .before .before .before .before .before .before .before .before .before .args in counts-known (c .before .before .before .before .before .before .before .before .loop .inv) _ _ (usages-next (a .tags .now) (a .logical .now) (a .physical .now) (c .before .before .before .before .before .before .before .before .loop .i) (c .before .before .before .before .before .before .before .loop-test .taken)) (c .before .before .before .find .result) (c .before .before .before .find .ensures) (c .add-usage .result) (c .before .before .if1 .taken) (c .add-usage .ensures)
+loop-again c = counts-known (c .before .before .before .before .before .before .before .before .loop .inv) _ _ (usages-next _ _ _ _ (c .before .before .before .before .before .before .before .loop-test .taken)) _ (c .before .before .before .find .ensures) _ (c .before .before .if1 .taken) (c .add-usage .ensures)
 
 blank-requires : tie.Need-blank-requires Inv-loop μ-loop
 blank-requires c κs = search needs
@@ -80,16 +80,16 @@ refused-requires : tie.Need-refused-requires Inv-loop μ-loop
 refused-requires c κs = search needs
 
 returns : tie.Need-returns Inv-loop μ-loop
-returns c = let a = c .before .before .before .before .before .before .before .before .before .before .before .before .before .before .before .before .before .args in rw (c .refused .ensures) (counts-full (c .before .before .before .before .before .before .before .before .before .before .before .before .loop .inv) _ _ (usages-next (a .tags .now) (a .logical .now) (a .physical .now) (c .before .before .before .before .before .before .before .before .before .before .before .before .loop .i) (c .before .before .before .before .before .before .before .before .before .before .before .loop-test .taken)) (c .before .before .before .before .before .before .before .find .result) (c .before .before .before .before .before .before .before .find .ensures) (c .before .before .before .before .add-usage2 .result) (c .before .before .before .before .before .before .if1 .left) (c .before .before .before .before .add-usage2 .ensures ∙ ap (addUsage _ _) (c .before .before .before .before .before .blank .ensures)) (c .before .before .before .insert .result) (c .before .before .before .insert .ensures) (c .before .if2 .taken))
+returns c = rw (c .refused .ensures) (counts-full (c .before .before .before .before .before .before .before .before .before .before .before .before .loop .inv) _ _ (usages-next _ _ _ _ (c .before .before .before .before .before .before .before .before .before .before .before .loop-test .taken)) _ (c .before .before .before .before .before .before .before .find .ensures) _ (c .before .before .before .before .before .before .if1 .left) (c .before .before .before .before .add-usage2 .ensures ∙ ap (addUsage _ _) (c .before .before .before .before .before .blank .ensures)) _ (c .before .before .before .insert .ensures) (c .before .if2 .taken))
 
 loop-less-2 : tie.Need-loop-less-2 Inv-loop μ-loop
 loop-less-2 c = omega (arith, c .before .before .before .before .before .before .before .before .before .before .before .loop-test .taken)
 
 loop-again-2 : tie.Need-loop-again-2 Inv-loop μ-loop
-loop-again-2 c = let a = c .before .before .before .before .before .before .before .before .before .before .before .before .before .before .before .before .before .args in counts-new (c .before .before .before .before .before .before .before .before .before .before .before .before .loop .inv) _ _ (usages-next (a .tags .now) (a .logical .now) (a .physical .now) (c .before .before .before .before .before .before .before .before .before .before .before .before .loop .i) (c .before .before .before .before .before .before .before .before .before .before .before .loop-test .taken)) (c .before .before .before .before .before .before .before .find .result) (c .before .before .before .before .before .before .before .find .ensures) (c .before .before .before .before .add-usage2 .result) (c .before .before .before .before .before .before .if1 .left) (c .before .before .before .before .add-usage2 .ensures ∙ ap (addUsage _ _) (c .before .before .before .before .before .blank .ensures)) (c .before .before .before .insert .result) (c .before .before .before .insert .ensures) (c .before .if2 .left)
+loop-again-2 c = counts-new (c .before .before .before .before .before .before .before .before .before .before .before .before .loop .inv) _ _ (usages-next _ _ _ _ (c .before .before .before .before .before .before .before .before .before .before .before .loop-test .taken)) _ (c .before .before .before .before .before .before .before .find .ensures) _ (c .before .before .before .before .before .before .if1 .left) (c .before .before .before .before .add-usage2 .ensures ∙ ap (addUsage _ _) (c .before .before .before .before .before .blank .ensures)) _ (c .before .before .before .insert .ensures) (c .before .if2 .left)
 
 returns-2 : tie.Need-returns-2 Inv-loop μ-loop
-returns-2 c = let a = c .before .before .before .before .before .before .args in counts-end (c .before .loop .inv) (usages-end (a .tags .now) (a .logical .now) (a .physical .now) (c .before .loop .i) (c .loop-test .left))
+returns-2 c = counts-end (c .before .loop .inv) (usages-end _ _ _ _ (c .loop-test .left))
 
 pub count-usage-spec : {M : Type 1} → statement M
 count-usage-spec =

@@ -15,10 +15,10 @@ enum-told : tie.Need-enum-told
 enum-told c = search needs
 
 returns : tie.Need-returns
-returns c = ap (orElse (c .before .before .before .before .args .other)) (sym (ap lenOf (c .before .len .given .1)) ∙ c .before .before .before .extent-len .ensures)
+returns c = ap (orElse _) (sym (ap lenOf (c .before .len .given .1)) ∙ c .before .before .before .extent-len .ensures)
 
 returns-2 : tie.Need-returns-2
-returns-2 c = ap (orElse (c .before .before .before .args .other)) (sym (ap lenOf (c .enum-told .given .1)) ∙ c .before .before .extent-len .ensures)
+returns-2 c = ap (orElse _) (sym (ap lenOf (c .enum-told .given .1)) ∙ c .before .before .extent-len .ensures)
 
 pub extent-len-or-spec : {M : Type 1} → statement M
 extent-len-or-spec =

@@ -16,7 +16,7 @@ sort-pairs-requires : tie.Need-sort-pairs-requires
 sort-pairs-requires c κs = search needs
 
 sweep-requires : tie.Need-sweep-requires
-sweep-requires c κs = sweep-fits (c .before .before .before .before .before .before .before .before .before .before .args .allocated .now) (c .before .before .before .before .sort-pairs .last .0) (c .before .before .before .before .before .before .before .before .before .before .args .gaps .now) (c .before .before .before .before .sort-pairs .kept .0) (omega (arith, c .before .before .before .before .before .before .if2 .left))
+sweep-requires c κs = sweep-fits (c .before .before .before .before .before .before .before .before .before .before .args .allocated .now) _ _ (c .before .before .before .before .sort-pairs .kept .0) (omega (arith, c .before .before .before .before .before .before .if2 .left))
 
 same-length : tie.Need-same-length
 same-length c = search needs

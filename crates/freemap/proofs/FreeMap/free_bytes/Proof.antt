@@ -12,7 +12,7 @@ too-few-requires : tie.Need-too-few-requires
 too-few-requires c κs = search needs
 
 returns : tie.Need-returns
-returns c = bytes-refused (c .before .before .before .args .self) (c .before .before .before .args .gaps .now) (sym (c .before .too-few .ensures) ∙ c .if1 .taken)
+returns c = bytes-refused _ _ (sym (c .before .too-few .ensures) ∙ c .if1 .taken)
 
 counted : (c : tie.Else1) → tooFew (c .before .before .before .args .self) (c .before .before .before .args .gaps .now) ≡ false
 counted c = sym (c .before .too-few .ensures) ∙ c .if1 .left

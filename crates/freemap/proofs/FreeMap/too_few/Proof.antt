@@ -6,7 +6,7 @@ use Rattle.freemap.proofs.FreeMap.too_few.Tie as tie
 
 returns : tie.Need-returns
 unfolding tooFew
-returns c = rw (length-pairs (c .before .args .gaps .now))
+returns c = rw (length-pairs _)
 
 pub too-few-spec : {M : Type 1} → statement M
 too-few-spec = tie.close (tie.spec returns)

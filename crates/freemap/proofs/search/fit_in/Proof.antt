@@ -8,7 +8,7 @@ use Rattle.freemap.proofs.search.fit_in.Statement.{statement}
 use Rattle.freemap.proofs.search.fit_in.Tie as tie
 
 returns : tie.Need-returns
-returns c = sym (fit-short (c .before .args .len) (c .before .args .mask) (c .before .args .skew) (c .before .args .start) (c .before .args .bytes) (c .before .pre .0) (c .if1 .taken))
+returns c = sym (fit-short _ _ _ _ _ (c .before .pre .0) (c .if1 .taken))
 
 add-lead : tie.Need-add-lead
 add-lead c = search needs
@@ -20,7 +20,7 @@ sub-pad : tie.Need-sub-pad
 sub-pad c = omega (arith, and-le-r (c .wrapping-add-u64 .result) (c .before .before .args .mask))
 
 returns-2 : tie.Need-returns-2
-returns-2 c = sym (fit-far (c .before .before .before .args .len) (c .before .before .before .args .mask) (c .before .before .before .args .skew) (c .before .before .before .args .start) (c .before .before .before .args .bytes) (c .before .before .before .pre .0) (c .before .wrapping-add-u64 .result) (c .before .wrapping-add-u64 .ensures) (c .before .before .if1 .left) (omega (arith, c .if2 .taken)))
+returns-2 c = sym (fit-far _ _ _ _ _ (c .before .before .before .pre .0) _ (c .before .wrapping-add-u64 .ensures) (c .before .before .if1 .left) (omega (arith, c .if2 .taken)))
 
 wrapping-add-u64-requires-2 : tie.Need-wrapping-add-u64-requires-2
 wrapping-add-u64-requires-2 c κs = search needs
@@ -29,16 +29,16 @@ sub-if3 : tie.Need-sub-if3
 sub-if3 c = search needs
 
 returns-3 : tie.Need-returns-3
-returns-3 c = sym (fit-high (c .before .before .before .before .before .args .len) (c .before .before .before .before .before .args .mask) (c .before .before .before .before .before .args .skew) (c .before .before .before .before .before .args .start) (c .before .before .before .before .before .args .bytes) (c .before .before .before .before .before .pre .0) (c .before .before .before .wrapping-add-u64 .result) (c .before .before .before .wrapping-add-u64 .ensures) (c .before .wrapping-add-u642 .result) (c .before .wrapping-add-u642 .ensures) (omega (arith, c .if3 .taken)))
+returns-3 c = sym (fit-high _ _ _ _ _ (c .before .before .before .before .before .pre .0) _ (c .before .before .before .wrapping-add-u64 .ensures) _ (c .before .wrapping-add-u642 .ensures) (omega (arith, c .if3 .taken)))
 
 sub-if4 : tie.Need-sub-if4
 sub-if4 c = search needs
 
 returns-4 : tie.Need-returns-4
-returns-4 c = sym (fit-skipped (c .before .before .before .before .before .before .args .len) (c .before .before .before .before .before .before .args .mask) (c .before .before .before .before .before .before .args .skew) (c .before .before .before .before .before .before .args .start) (c .before .before .before .before .before .before .args .bytes) (c .before .before .before .before .before .before .pre .0) (omega (arith, c .if4 .taken, c .before .before .before .before .before .before .pre .1)))
+returns-4 c = sym (fit-skipped _ _ _ _ _ (c .before .before .before .before .before .before .pre .0) (omega (arith, c .if4 .taken, c .before .before .before .before .before .before .pre .1)))
 
 returns-5 : tie.Need-returns-5
-returns-5 c = sym (fit-at (c .before .before .before .before .before .before .args .len) (c .before .before .before .before .before .before .args .mask) (c .before .before .before .before .before .before .args .skew) (c .before .before .before .before .before .before .args .start) (c .before .before .before .before .before .before .args .bytes) (c .before .before .before .before .before .before .pre .0) (c .before .before .before .before .wrapping-add-u64 .result) (c .before .before .before .before .wrapping-add-u64 .ensures) (c .before .before .wrapping-add-u642 .result) (c .before .before .wrapping-add-u642 .ensures) (omega (arith, c .if4 .left, c .before .before .before .before .before .before .pre .1)) (c .before .before .before .before .before .if1 .left) (omega (arith, c .before .before .before .if2 .left)) (omega (arith, c .before .if3 .left)))
+returns-5 c = sym (fit-at _ _ _ _ _ (c .before .before .before .before .before .before .pre .0) _ (c .before .before .before .before .wrapping-add-u64 .ensures) _ (c .before .before .wrapping-add-u642 .ensures) (omega (arith, c .if4 .left, c .before .before .before .before .before .before .pre .1)) (c .before .before .before .before .before .if1 .left) (omega (arith, c .before .before .before .if2 .left)) (omega (arith, c .before .if3 .left)))
 
 pub fit-in-spec : {M : Type 1} → statement M
 fit-in-spec =

@@ -14,7 +14,7 @@ abbrev μ-loop : tie.MeasureT-loop
 μ-loop ranges at count owner first n s₀ k₀ s k = count - k
 
 loop-holds : tie.Need-loop-holds Inv-loop μ-loop
-loop-holds c = laying-begins _ _ _ (c .before .before .args .owner) _ _ _ (c .before .before .pre .0) (c .before .before .pre .1) (c .before .before .pre .2)
+loop-holds c = laying-begins _ _ _ _ _ _ _ (c .before .before .pre .0) (c .before .before .pre .1) (c .before .before .pre .2)
 
 add-get : tie.Need-add-get Inv-loop μ-loop
 add-get c = omega (arith, pair-in _ _ (laying-in (c .before .loop .inv) (c .loop-test .taken)))

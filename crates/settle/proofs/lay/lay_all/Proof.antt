@@ -14,7 +14,7 @@ abbrev μ-loop : tie.MeasureT-loop
 μ-loop count counts ranges owner first n s₀ at₀ i₀ s at i = count - i
 
 loop-holds : tie.Need-loop-holds Inv-loop μ-loop
-loop-holds c = all-begins _ _ _ (c .before .before .before .args .owner) _ _ _ (c .before .before .before .pre .0) (c .before .before .before .pre .1) (c .before .before .before .pre .2) (c .before .before .before .pre .3) (c .before .before .before .pre .4)
+loop-holds c = let p = c .before .before .before .pre in all-begins _ _ _ _ _ _ _ (p .0) (p .1) (p .2) (p .3) (p .4)
 
 mul-own : tie.Need-mul-own Inv-loop μ-loop
 mul-own c = let g = c .before .loop .inv in let h = c .loop-test .taken in omega (arith, g .enough, g .few, g .upto)

@@ -20,7 +20,7 @@ loop-holds : tie.Need-loop-holds Inv-loop μ-loop
 loop-holds c = writing-begins _ _ _ (c .before .before .before .before .before .before .before .before .before .before .before .pre .1 .2)
 
 renamed-requires : tie.Need-renamed-requires Inv-loop μ-loop
-renamed-requires c κs = ((c .before .before .before .before .before .before .before .before .before .before .before .before .before .pre .0 .0, c .loop-test .taken, c .before .before .before .before .before .before .before .before .before .before .before .before .before .pre .1 .3 _ (c .loop-test .taken)), c .before .before .before .before .before .before .before .before .before .before .before .before .before .pre .0 .1)
+renamed-requires c κs = let p = c .before .before .before .before .before .before .before .before .before .before .before .before .before .pre in ((p .0 .0, c .loop-test .taken, p .1 .3 _ (c .loop-test .taken)), p .0 .1)
 
 shared-slice-read-mark-of : tie.Need-shared-slice-read-mark-of Inv-loop μ-loop
 shared-slice-read-mark-of c = let h = c .before .before .loop-test .taken in omega (arith, c .before .before .before .before .before .before .before .before .before .before .before .before .before .before .before .pre .1 .0)

@@ -43,7 +43,7 @@ shared-slice-read-search-2 : tie.Need-shared-slice-read-search-2
 shared-slice-read-search-2 c = search needs
 
 search-requires : tie.Need-search-requires
-search-requires c κs = let p = part-asked (c .before .before .before .before .before .before .before .before .before .before .before .before .pre .0 .0) (c .before .before .before .before .before .before .before .before .before .before .before .before .args .i) (c .before .before .before .before .before .before .before .before .before .before .before .before .pre .0 .1) (c .before .before .before .before .before .before .before .before .before .before .before .before .pre .0 .2) in (c .before .before .before .before .before .before .before .before .before .before .before .before .pre .0 .0, p .0, p .1, omega (arith, c .before .before .before .before .before .before .before .before .before .before .before .before .pre .0 .1))
+search-requires c κs = let p = part-asked (c .before .before .before .before .before .before .before .before .before .before .before .before .pre .0 .0) _ (c .before .before .before .before .before .before .before .before .before .before .before .before .pre .0 .1) (c .before .before .before .before .before .before .before .before .before .before .before .before .pre .0 .2) in (c .before .before .before .before .before .before .before .before .before .before .before .before .pre .0 .0, p .0, p .1, omega (arith, c .before .before .before .before .before .before .before .before .before .before .before .before .pre .0 .1))
 
 returns : tie.Need-returns
 returns c = sym (outdone-near _ _ _ _ _ _ _ _ _ (sym (c .before .search .ensures) ∙ c .if1 .taken))
@@ -61,7 +61,7 @@ shared-slice-read-search-4 : tie.Need-shared-slice-read-search-4
 shared-slice-read-search-4 c = search needs
 
 search-requires-2 : tie.Need-search-requires-2
-search-requires-2 c κs = let p = part-asked (c .before .before .before .before .before .before .before .before .before .before .before .before .before .before .before .before .pre .0 .0) (c .before .before .before .before .before .before .before .before .before .before .before .before .before .before .before .before .args .i) (c .before .before .before .before .before .before .before .before .before .before .before .before .before .before .before .before .pre .0 .1) (c .before .before .before .before .before .before .before .before .before .before .before .before .before .before .before .before .pre .0 .2) in (c .before .before .before .before .before .before .before .before .before .before .before .before .before .before .before .before .pre .1, p .0, p .1, omega arith)
+search-requires-2 c κs = let p = part-asked (c .before .before .before .before .before .before .before .before .before .before .before .before .before .before .before .before .pre .0 .0) _ (c .before .before .before .before .before .before .before .before .before .before .before .before .before .before .before .before .pre .0 .1) (c .before .before .before .before .before .before .before .before .before .before .before .before .before .before .before .before .pre .0 .2) in (c .before .before .before .before .before .before .before .before .before .before .before .before .before .before .before .before .pre .1, p .0, p .1, omega arith)
 
 returns-2 : tie.Need-returns-2
 returns-2 c = c .search2 .ensures ∙ outdone-far _ _ _ _ _ _ _ _ _ (sym (c .before .before .before .before .search .ensures) ∙ c .before .before .before .if1 .left)

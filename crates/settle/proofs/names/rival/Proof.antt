@@ -7,7 +7,7 @@ use Rattle.settle.proofs.names.rival.Statement.{statement}
 use Rattle.settle.proofs.names.rival.Tie as tie
 
 returns : tie.Need-returns
-returns c = sym (rival-itself (c .before .before .before .before .before .args .seqs .now) (c .before .before .before .before .before .args .lens .now) (c .before .before .before .before .before .args .names .now) (c .before .before .before .before .before .args .skip) (c .before .before .before .before .before .args .seq) (c .before .before .before .before .before .args .name .now) (c .before .before .before .before .before .args .j) (c .if1 .taken))
+returns c = sym (rival-itself _ _ _ _ _ _ _ (c .if1 .taken))
 
 mul-if2 : tie.Need-mul-if2
 mul-if2 c = search needs
@@ -16,7 +16,7 @@ shared-slice-read-if2 : tie.Need-shared-slice-read-if2
 shared-slice-read-if2 c = search needs
 
 returns-2 : tie.Need-returns-2
-returns-2 c = sym (rival-lower (c .before .before .before .before .before .before .before .args .seqs .now) (c .before .before .before .before .before .before .before .args .lens .now) (c .before .before .before .before .before .before .before .args .names .now) (c .before .before .before .before .before .before .before .args .skip) (c .before .before .before .before .before .before .before .args .seq) (c .before .before .before .before .before .before .before .args .name .now) (c .before .before .before .before .before .before .before .args .j) (c .if2 .taken))
+returns-2 c = sym (rival-lower _ _ _ _ _ _ _ (c .if2 .taken))
 
 shared-slice-read-len : tie.Need-shared-slice-read-len
 shared-slice-read-len c = search needs
@@ -25,7 +25,7 @@ cast-len : tie.Need-cast-len
 cast-len c = omega (arith, c .shared-slice-known6 .given (c .before .before .before .before .before .before .before .before .args .j))
 
 returns-3 : tie.Need-returns-3
-returns-3 c = sym (rival-longer (c .before .before .before .before .before .before .before .before .before .args .seqs .now) (c .before .before .before .before .before .before .before .before .before .args .lens .now) (c .before .before .before .before .before .before .before .before .before .args .names .now) (c .before .before .before .before .before .before .before .before .before .args .skip) (c .before .before .before .before .before .before .before .before .before .args .seq) (c .before .before .before .before .before .before .before .before .before .args .name .now) (c .before .before .before .before .before .before .before .before .before .args .j) (c .if3 .taken))
+returns-3 c = sym (rival-longer _ _ _ _ _ _ _ (c .if3 .taken))
 
 mul-same-bytes : tie.Need-mul-same-bytes
 mul-same-bytes c = search needs
@@ -49,7 +49,7 @@ same-bytes-requires : tie.Need-same-bytes-requires
 same-bytes-requires c κs = search needs
 
 returns-4 : tie.Need-returns-4
-returns-4 c = c .same-bytes .ensures ∙ rival-same (c .before .before .before .before .before .before .before .before .before .before .before .args .seqs .now) (c .before .before .before .before .before .before .before .before .before .before .before .args .lens .now) (c .before .before .before .before .before .before .before .before .before .before .before .args .names .now) (c .before .before .before .before .before .before .before .before .before .before .before .args .skip) (c .before .before .before .before .before .before .before .before .before .before .before .args .seq) (c .before .before .before .before .before .before .before .before .before .before .before .args .name .now) (c .before .before .before .before .before .before .before .before .before .before .before .args .j) (c .before .before .before .before .before .before .if1 .left) (c .before .before .before .before .if2 .left) (c .before .before .if3 .left)
+returns-4 c = c .same-bytes .ensures ∙ rival-same _ _ _ _ _ _ _ (c .before .before .before .before .before .before .if1 .left) (c .before .before .before .before .if2 .left) (c .before .before .if3 .left)
 
 pub rival-spec : {M : Type 1} → statement M
 rival-spec =

@@ -14,16 +14,16 @@ abbrev μ-loop : tie.MeasureT-loop
 μ-loop name tag seq skip count seqs lens names tags j₀ j = count - j
 
 alike-requires : tie.Need-alike-requires Inv-loop μ-loop
-alike-requires c κs = let h = c .before .before .before .before .before .pre .0 .tags-in in omega (arith, c .before .before .before .before .before .pre .3)
+alike-requires c κs = let p = c .before .before .before .before .before .pre in let h = p .0 .tags-in in omega (arith, p .3)
 
 add-alike : tie.Need-add-alike Inv-loop μ-loop
-add-alike c = omega (arith, c .before .before .before .before .before .before .before .pre .3, c .before .before .before .before .before .before .before .pre .0 .few)
+add-alike c = let p = c .before .before .before .before .before .before .before .pre in omega (arith, p .3, p .0 .few)
 
 alike-requires-2 : tie.Need-alike-requires-2 Inv-loop μ-loop
 alike-requires-2 c κs = c .before .before .before .before .before .before .before .pre .0 .tags-in
 
 returns : tie.Need-returns Inv-loop μ-loop
-returns c = sym (alone-none _ _ _ _ _ _ _ _ _ _ _ (c .before .before .before .before .before .before .before .before .before .pre .0) (c .before .before .before .before .before .before .before .before .before .pre .1) (c .before .before .before .before .before .before .before .before .before .pre .2) (c .before .before .before .alike .ensures) (c .before .before .if1 .taken) (c .before .alike2 .ensures) (c .if2 .taken))
+returns c = let p = c .before .before .before .before .before .before .before .before .before .pre in sym (alone-none _ _ _ _ _ _ _ _ _ _ _ (p .0) (p .1) (p .2) (c .before .before .before .alike .ensures) (c .before .before .if1 .taken) (c .before .alike2 .ensures) (c .if2 .taken))
 
 loop-holds : tie.Need-loop-holds Inv-loop μ-loop
 loop-holds c = seek-begins _ _ _ _ _ _ _
@@ -47,7 +47,7 @@ loop-less : tie.Need-loop-less Inv-loop μ-loop
 loop-less c = omega arith
 
 loop-again : tie.Need-loop-again Inv-loop μ-loop
-loop-again c = ⊎-elim (λ u. seek-on (c .before .before .before .loop .inv) (c .before .before .loop-test .taken) (sym (u .1 .ensures) ∙ u .2 .left)) (λ u. seek-past (c .before .before .before .loop .inv) (c .before .before .loop-test .taken) _ (c .before .before .before .before .before .before .before .before .before .before .before .pre .0) (c .before .before .before .before .before .before .before .before .before .before .before .pre .1) (λ e. u .left (e ∙ sym (c .before .before .before .before .before .before .before .before .before .before .before .pre .2)))) (c .if3 .came)
+loop-again c = let p = c .before .before .before .before .before .before .before .before .before .before .before .pre in ⊎-elim (λ u. seek-on (c .before .before .before .loop .inv) (c .before .before .loop-test .taken) (sym (u .1 .ensures) ∙ u .2 .left)) (λ u. seek-past (c .before .before .before .loop .inv) (c .before .before .loop-test .taken) _ (p .0) (p .1) (λ e. u .left (e ∙ sym (p .2)))) (c .if3 .came)
 
 returns-3 : tie.Need-returns-3 Inv-loop μ-loop
 returns-3 c = sym (seek-ends (c .before .loop .inv) (c .loop-test .left))

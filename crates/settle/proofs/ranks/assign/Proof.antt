@@ -23,13 +23,13 @@ get-requires : tie.Need-get-requires Inv-loop μ-loop
 get-requires c κs = half-in _ _ _ refl (c .loop-test .taken)
 
 get-requires-2 : tie.Need-get-requires-2 Inv-loop μ-loop
-get-requires-2 c κs = walking-rank (c .before .before .before .before .before .pre .0) (c .before .before .before .before .before .pre .1) (c .before .before .loop .inv) (half-in _ _ _ refl (c .before .loop-test .taken))
+get-requires-2 c κs = let p = c .before .before .before .before .before .pre in walking-rank (p .0) (p .1) (c .before .before .loop .inv) (half-in _ _ _ refl (c .before .loop-test .taken))
 
 mul-ranks : tie.Need-mul-ranks Inv-loop μ-loop
-mul-ranks c = omega (arith, walking-place (c .before .before .before .before .before .before .before .before .before .pre .0) (c .before .before .before .before .before .before .before .before .before .pre .1) (c .before .before .before .before .before .before .loop .inv) (half-in (c .before .before .before .before .before .before .before .before .before .args .keys .now) _ _ refl (c .before .before .before .before .before .loop-test .taken)) _ (c .before .before .before .before .get .ensures))
+mul-ranks c = let p = c .before .before .before .before .before .before .before .before .before .pre in omega (arith, walking-place (p .0) (p .1) (c .before .before .before .before .before .before .loop .inv) (half-in _ _ _ refl (c .before .before .before .before .before .loop-test .taken)) _ (c .before .before .before .before .get .ensures))
 
 slice-write-ranks : tie.Need-slice-write-ranks Inv-loop μ-loop
-slice-write-ranks c = omega (arith, walking-place (c .before .before .before .before .before .before .before .before .before .pre .0) (c .before .before .before .before .before .before .before .before .before .pre .1) (c .before .before .before .before .before .before .loop .inv) (half-in (c .before .before .before .before .before .before .before .before .before .args .keys .now) _ _ refl (c .before .before .before .before .before .loop-test .taken)) _ (c .before .before .before .before .get .ensures))
+slice-write-ranks c = let p = c .before .before .before .before .before .before .before .before .before .pre in omega (arith, walking-place (p .0) (p .1) (c .before .before .before .before .before .before .loop .inv) (half-in _ _ _ refl (c .before .before .before .before .before .loop-test .taken)) _ (c .before .before .before .before .get .ensures))
 
 add-t : tie.Need-add-t Inv-loop μ-loop
 add-t c = omega (arith, pair-in _ _ (half-in (c .before .before .before .before .before .before .before .before .before .args .keys .now) _ _ refl (c .before .before .before .before .before .loop-test .taken)))
@@ -38,14 +38,14 @@ loop-less : tie.Need-loop-less Inv-loop μ-loop
 loop-less c = omega arith
 
 loop-again : tie.Need-loop-again Inv-loop μ-loop
-loop-again c = let h = half-in (c .before .before .before .before .before .before .before .before .before .args .keys .now) _ _ refl (c .before .before .before .before .before .loop-test .taken) in
-    ⊎-elim (λ u. walking-next (c .before .before .before .before .before .before .before .before .before .pre .0) (c .before .before .before .before .before .before .before .before .before .pre .1) (c .before .before .before .before .before .before .loop .inv) h _ _ (c .before .before .before .before .get .ensures) (c .before .before .before .get2 .ensures) _ (u .1) (u .0 .taken)) (λ u. walking-same (c .before .before .before .before .before .before .before .before .before .pre .0) (c .before .before .before .before .before .before .before .before .before .pre .1) (c .before .before .before .before .before .before .loop .inv) h _ _ (c .before .before .before .before .get .ensures) (c .before .before .before .get2 .ensures) _ (u .1) (u .0 .left)) (c .if1 .came)
+loop-again c = let p = c .before .before .before .before .before .before .before .before .before .pre in let h = half-in _ _ _ refl (c .before .before .before .before .before .loop-test .taken) in
+    ⊎-elim (λ u. walking-next (p .0) (p .1) (c .before .before .before .before .before .before .loop .inv) h _ _ (c .before .before .before .before .get .ensures) (c .before .before .before .get2 .ensures) _ (u .1) (u .0 .taken)) (λ u. walking-same (p .0) (p .1) (c .before .before .before .before .before .before .loop .inv) h _ _ (c .before .before .before .before .get .ensures) (c .before .before .before .get2 .ensures) _ (u .1) (u .0 .left)) (c .if1 .came)
 
 same-length : tie.Need-same-length Inv-loop μ-loop
 same-length c = c .before .loop .inv .size
 
 returns : tie.Need-returns Inv-loop μ-loop
-returns c = walking-ends (c .before .before .before .before .pre .0) (c .before .before .before .before .pre .1) (c .before .loop .inv) (half-out (c .before .before .before .before .args .keys .now) _ _ refl (c .loop-test .left))
+returns c = let p = c .before .before .before .before .pre in walking-ends (p .0) (p .1) (c .before .loop .inv) (half-out _ _ _ refl (c .loop-test .left))
 
 pub assign-spec : {M : Type 1} → statement M
 assign-spec =

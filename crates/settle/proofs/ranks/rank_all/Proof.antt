@@ -8,13 +8,13 @@ slice-aggregate-key : tie.Need-slice-aggregate-key
 slice-aggregate-key c = search needs
 
 key-requires : tie.Need-key-requires
-key-requires c κs = (c .before .before .before .before .pre .2, keys-room _ (c .before .before .before .before .pre .0))
+key-requires c κs = let p = c .before .before .before .before .pre in (p .2, keys-room _ (p .0))
 
 slice-aggregate-key-2 : tie.Need-slice-aggregate-key-2
 slice-aggregate-key-2 c = search needs
 
 key-requires-2 : tie.Need-key-requires-2
-key-requires-2 c κs = (c .before .before .before .before .before .before .before .pre .3, keys-more _ _ _ (c .before .before .before .before .before .before .before .pre .0) (c .before .before .before .before .before .before .before .pre .1) (c .before .before .key .ensures .size))
+key-requires-2 c κs = let p = c .before .before .before .before .before .before .before .pre in (p .3, keys-more _ _ _ (p .0) (p .1) (c .before .before .key .ensures .size))
 
 add-rank-keys : tie.Need-add-rank-keys
 add-rank-keys c = search needs
@@ -32,13 +32,13 @@ part-keys-end : tie.Need-part-keys-end
 part-keys-end c = search needs
 
 rank-keys-requires : tie.Need-rank-keys-requires
-rank-keys-requires c κs = all-ready _ _ _ _ _ _ (c .before .before .before .before .before .before .before .before .before .before .before .pre .0) (c .before .before .before .before .before .before .before .before .before .before .before .pre .1) (c .before .before .before .before .before .before .before .before .before .before .before .pre .2) (c .before .before .before .before .before .before .before .before .before .before .before .pre .3) (c .before .before .before .before .before .before .key .ensures) (c .before .before .before .key2 .ensures) _ (c .before .before .before .before .before .before .before .before .before .before .before .pre .4)
+rank-keys-requires c κs = let p = c .before .before .before .before .before .before .before .before .before .before .before .pre in all-ready _ _ _ _ _ _ (p .0) (p .1) (p .2) (p .3) (c .before .before .before .before .before .before .key .ensures) (c .before .before .before .key2 .ensures) _ (p .4)
 
 same-length : tie.Need-same-length
 same-length c = search needs
 
 returns : tie.Need-returns
-returns c = ranks-of (all-keys _ _ _ _ _ _ (c .before .before .before .before .before .before .before .before .before .before .before .before .before .before .before .pre .0) (c .before .before .before .before .before .before .before .before .before .before .before .before .before .before .before .pre .1) (c .before .before .before .before .before .before .before .before .before .before .before .before .before .before .before .pre .2) (c .before .before .before .before .before .before .before .before .before .before .before .before .before .before .before .pre .3) (c .before .before .before .before .before .before .before .before .before .before .key .ensures) (c .before .before .before .before .before .before .before .key2 .ensures)) _ (c .before .before .before .rank-keys .ensures)
+returns c = let p = c .before .before .before .before .before .before .before .before .before .before .before .before .before .before .before .pre in ranks-of (all-keys _ _ _ _ _ _ (p .0) (p .1) (p .2) (p .3) (c .before .before .before .before .before .before .before .before .before .before .key .ensures) (c .before .before .before .before .before .before .before .key2 .ensures)) _ (c .before .before .before .rank-keys .ensures)
 
 pub rank-all-spec : {M : Type 1} → statement M
 rank-all-spec =

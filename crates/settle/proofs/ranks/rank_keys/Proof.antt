@@ -8,7 +8,7 @@ sort-pairs-requires : tie.Need-sort-pairs-requires
 sort-pairs-requires c κs = search needs
 
 assign-requires : tie.Need-assign-requires
-assign-requires c κs = keys-ready _ _ _ (c .before .before .before .before .sort-pairs .ensures) (c .before .before .before .before .before .before .before .before .pre .0) _ (c .before .before .before .before .before .before .before .before .pre .1)
+assign-requires c κs = let p = c .before .before .before .before .before .before .before .before .pre in keys-ready _ _ _ (c .before .before .before .before .sort-pairs .ensures) (p .0) _ (p .1)
 
 same-length : tie.Need-same-length
 same-length c = search needs

@@ -6,10 +6,10 @@ use Rattle.settle.proofs.struck.lay_out.Statement.{statement}
 use Rattle.settle.proofs.struck.lay_out.Tie as tie
 
 lay-all-requires : tie.Need-lay-all-requires
-lay-all-requires c κs = lay-first (c .before .before .before .before .before .before .args .usable) (c .before .before .before .before .before .before .args .unavailable) _ _ (c .before .before .before .before .before .before .args .counts .now) (c .before .before .before .before .before .before .args .ranges .now) (c .before .before .before .before .before .before .args .own-counts .now) (c .before .before .before .before .before .before .args .own-ranges .now) (c .before .before .before .before .before .before .pre .0 .0) (c .before .before .before .before .before .before .pre .0 .1) (c .before .before .before .before .before .before .pre .1 .0) (c .before .before .before .before .before .before .pre .1 .1) _ (c .before .before .before .before .before .before .pre .1 .2)
+lay-all-requires c κs = let p = c .before .before .before .before .before .before .pre in lay-first _ _ _ _ _ _ _ _ (p .0 .0) (p .0 .1) (p .1 .0) (p .1 .1) _ (p .1 .2)
 
 lay-all-requires-2 : tie.Need-lay-all-requires-2
-lay-all-requires-2 c κs = lay-second (c .before .before .before .before .before .before .before .before .before .before .args .usable) (c .before .before .before .before .before .before .before .before .before .before .args .unavailable) _ _ (c .before .before .before .before .before .before .before .before .before .before .args .counts .now) (c .before .before .before .before .before .before .before .before .before .before .args .ranges .now) (c .before .before .before .before .before .before .before .before .before .before .args .own-counts .now) (c .before .before .before .before .before .before .before .before .before .before .args .own-ranges .now) (c .before .before .before .before .before .before .before .before .before .before .pre .0 .0) (c .before .before .before .before .before .before .before .before .before .before .pre .0 .1) (c .before .before .before .before .before .before .before .before .before .before .pre .1 .0) (c .before .before .before .before .before .before .before .before .before .before .pre .1 .1) _ (c .before .before .before .lay-all .kept .1 .1 .1 .1 .1 .1 .0 ∙ c .before .before .before .before .before .before .before .before .before .before .pre .1 .2)
+lay-all-requires-2 c κs = let p = c .before .before .before .before .before .before .before .before .before .before .pre in lay-second _ _ _ _ _ _ _ _ (p .0 .0) (p .0 .1) (p .1 .0) (p .1 .1) _ (c .before .before .before .lay-all .kept .1 .1 .1 .1 .1 .1 .0 ∙ p .1 .2)
 
 mul-sort-pairs : tie.Need-mul-sort-pairs
 mul-sort-pairs c = search needs
@@ -30,8 +30,8 @@ same-length : tie.Need-same-length
 same-length c = search needs
 
 returns : tie.Need-returns
-returns c = λ seqs lens names own-seqs own-lens own-names.
-    both-ordered (c .before .before .before .before .before .before .before .before .before .before .before .before .before .before .before .before .before .args .usable) (c .before .before .before .before .before .before .before .before .before .before .before .before .before .before .before .before .before .args .unavailable) _ _ (c .before .before .before .before .before .before .before .before .before .before .before .before .before .before .before .before .before .args .counts .now) (c .before .before .before .before .before .before .before .before .before .before .before .before .before .before .before .before .before .args .ranges .now) (c .before .before .before .before .before .before .before .before .before .before .before .before .before .before .before .before .before .args .own-counts .now) (c .before .before .before .before .before .before .before .before .before .before .before .before .before .before .before .before .before .args .own-ranges .now) (c .before .before .before .before .before .before .before .before .before .before .before .before .before .before .before .before .before .pre .0 .0) (c .before .before .before .before .before .before .before .before .before .before .before .before .before .before .before .before .before .pre .0 .1) (c .before .before .before .before .before .before .before .before .before .before .before .before .before .before .before .before .before .pre .1 .0) (c .before .before .before .before .before .before .before .before .before .before .before .before .before .before .before .before .before .pre .1 .1) seqs lens names own-seqs own-lens own-names _ _ _ _ _ (c .before .before .before .before .before .before .before .before .before .before .before .before .before .before .before .before .before .pre .1 .2) (c .before .before .before .before .before .before .before .before .before .before .lay-all .ensures seqs lens names) (c .before .before .before .before .before .before .lay-all2 .ensures own-seqs own-lens own-names) (c .before .before .sort-pairs .ensures) (c .before .before .sort-pairs .kept .0)
+returns c = let p = c .before .before .before .before .before .before .before .before .before .before .before .before .before .before .before .before .before .pre in λ seqs lens names own-seqs own-lens own-names.
+    both-ordered _ _ _ _ _ _ _ _ (p .0 .0) (p .0 .1) (p .1 .0) (p .1 .1) seqs lens names own-seqs own-lens own-names _ _ _ _ _ (p .1 .2) (c .before .before .before .before .before .before .before .before .before .before .lay-all .ensures seqs lens names) (c .before .before .before .before .before .before .lay-all2 .ensures own-seqs own-lens own-names) (c .before .before .sort-pairs .ensures) (c .before .before .sort-pairs .kept .0)
 
 pub lay-out-spec : {M : Type 1} → statement M
 lay-out-spec =

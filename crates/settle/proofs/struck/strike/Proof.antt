@@ -52,8 +52,8 @@ slice-aggregate-sweep-both c = search needs
 
 sweep-both-requires : tie.Need-sweep-both-requires
 sweep-both-requires c κs = let p = c .before .before .before .before .before .before .before .before .before .before .before .before .before .before .before .before .before .before .before .before .before .before .pre in
-    strike-ready (lent (c .before .before .before .before .before .before .before .before .before .before .before .before .before .before .before .before .before .before .before .before .before .before .args .usable) (c .before .before .before .before .before .before .before .before .before .before .before .before .before .before .before .before .before .before .before .before .before .before .args .seqs .now) (c .before .before .before .before .before .before .before .before .before .before .before .before .before .before .before .before .before .before .before .before .before .before .args .counts .now) (c .before .before .before .before .before .before .before .before .before .before .before .before .before .before .before .before .before .before .before .before .before .before .args .ranges .now) [] []) (lent (c .before .before .before .before .before .before .before .before .before .before .before .before .before .before .before .before .before .before .before .before .before .before .args .unavailable) (c .before .before .before .before .before .before .before .before .before .before .before .before .before .before .before .before .before .before .before .before .before .before .args .own-seqs .now) (c .before .before .before .before .before .before .before .before .before .before .before .before .before .before .before .before .before .before .before .before .before .before .args .own-counts .now) (c .before .before .before .before .before .before .before .before .before .before .before .before .before .before .before .before .before .before .before .before .before .before .args .own-ranges .now) [] []) (p .0 .0) (p .0 .1) (p .1 .0 .0) (p .1 .0 .1) (c .before .before .before .before .before .before .before .before .lay-out .last .1 .1 .1 .1 .1 .1 .1 .1 .0) (c .before .before .before .before .before .before .before .before .before .before .before .before .before .before .before .before .before .before .before .before .before .before .args .n) _ (c .before .before .before .before .before .before .before .before .lay-out .ensures (c .before .before .before .before .before .before .before .before .before .before .before .before .before .before .before .before .before .before .before .before .before .before .args .seqs .now) [] [] (c .before .before .before .before .before .before .before .before .before .before .before .before .before .before .before .before .before .before .before .before .before .before .args .own-seqs .now) [] []) (c .before .before .before .before .before .before .before .before .before .before .before .rank-all .ensures)
-    (both-length (c .before .before .before .before .before .before .before .before .before .before .before .before .before .before .before .before .before .before .before .before .before .before .args .usable) (c .before .before .before .before .before .before .before .before .before .before .before .before .before .before .before .before .before .before .before .before .before .before .args .unavailable) _ _ (c .before .before .before .before .before .before .before .before .before .before .before .before .before .before .before .before .before .before .before .before .before .before .args .counts .now) (c .before .before .before .before .before .before .before .before .before .before .before .before .before .before .before .before .before .before .before .before .before .before .args .ranges .now) (c .before .before .before .before .before .before .before .before .before .before .before .before .before .before .before .before .before .before .before .before .before .before .args .own-counts .now) (c .before .before .before .before .before .before .before .before .before .before .before .before .before .before .before .before .before .before .before .before .before .before .args .own-ranges .now) (p .0 .0) (p .0 .1) (p .1 .1 .0 .0) (p .1 .1 .0 .1) (c .before .before .before .before .before .before .before .before .before .before .before .before .before .before .before .before .before .before .before .before .before .before .args .seqs .now) [] [] (c .before .before .before .before .before .before .before .before .before .before .before .before .before .before .before .before .before .before .before .before .before .before .args .own-seqs .now) [] [])
+    strike-ready (lent _ _ _ _ [] []) (lent _ _ _ _ [] []) (p .0 .0) (p .0 .1) (p .1 .0 .0) (p .1 .0 .1) _ _ _ (c .before .before .before .before .before .before .before .before .lay-out .ensures _ [] [] _ [] []) (c .before .before .before .before .before .before .before .before .before .before .before .rank-all .ensures)
+    (both-length _ _ _ _ _ _ _ _ (p .0 .0) (p .0 .1) (p .1 .1 .0 .0) (p .1 .1 .0 .1) _ [] [] _ [] [])
     (c .before .before .before .before .before .before .before .before .lay-out .kept .1 .1 .1 .1 .1 .1 .1 .1 .0 ∙ p .1 .1 .0 .2) (c .before .before .before .before .before .before .before .before .before .before .before .rank-all .kept .1 .1 .1 .1 .0 ∙ length-replicate {A = ℕ} 2048 0) _ _ (p .1 .1 .1 .0) (p .1 .1 .1 .1)
 
 same-length : tie.Need-same-length
@@ -67,7 +67,7 @@ same-length-3 c = search needs
 
 returns : tie.Need-returns
 returns c = let p = c .before .before .before .before .before .before .before .before .before .before .before .before .before .before .before .before .before .before .before .before .before .before .before .before .before .before .before .pre in λ lens names own-lens own-names.
-    strike-marks (lent (c .before .before .before .before .before .before .before .before .before .before .before .before .before .before .before .before .before .before .before .before .before .before .before .before .before .before .before .args .usable) (c .before .before .before .before .before .before .before .before .before .before .before .before .before .before .before .before .before .before .before .before .before .before .before .before .before .before .before .args .seqs .now) (c .before .before .before .before .before .before .before .before .before .before .before .before .before .before .before .before .before .before .before .before .before .before .before .before .before .before .before .args .counts .now) (c .before .before .before .before .before .before .before .before .before .before .before .before .before .before .before .before .before .before .before .before .before .before .before .before .before .before .before .args .ranges .now) lens names) (lent (c .before .before .before .before .before .before .before .before .before .before .before .before .before .before .before .before .before .before .before .before .before .before .before .before .before .before .before .args .unavailable) (c .before .before .before .before .before .before .before .before .before .before .before .before .before .before .before .before .before .before .before .before .before .before .before .before .before .before .before .args .own-seqs .now) (c .before .before .before .before .before .before .before .before .before .before .before .before .before .before .before .before .before .before .before .before .before .before .before .before .before .before .before .args .own-counts .now) (c .before .before .before .before .before .before .before .before .before .before .before .before .before .before .before .before .before .before .before .before .before .before .before .before .before .before .before .args .own-ranges .now) own-lens own-names) (p .0 .0) (p .0 .1) (p .1 .0 .0) (p .1 .0 .1) (c .before .before .before .before .before .before .before .before .before .before .before .before .before .lay-out .last .1 .1 .1 .1 .1 .1 .1 .1 .0) (c .before .before .before .before .before .before .before .before .before .before .before .before .before .before .before .before .before .before .before .before .before .before .before .before .before .before .before .args .n) _ (c .before .before .before .before .before .before .before .before .before .before .before .before .before .lay-out .ensures (c .before .before .before .before .before .before .before .before .before .before .before .before .before .before .before .before .before .before .before .before .before .before .before .before .before .before .before .args .seqs .now) lens names (c .before .before .before .before .before .before .before .before .before .before .before .before .before .before .before .before .before .before .before .before .before .before .before .before .before .before .before .args .own-seqs .now) own-lens own-names) (c .before .before .before .before .before .before .before .before .before .before .before .before .before .before .before .before .rank-all .ensures) (p .1 .1 .1 .0) (p .1 .1 .1 .1) (c .before .before .before .before .sweep-both .ensures)
+    strike-marks (lent _ _ _ _ lens names) (lent _ _ _ _ own-lens own-names) (p .0 .0) (p .0 .1) (p .1 .0 .0) (p .1 .0 .1) _ (c .before .before .before .before .before .before .before .before .before .before .before .before .before .before .before .before .before .before .before .before .before .before .before .before .before .before .before .args .n) _ (c .before .before .before .before .before .before .before .before .before .before .before .before .before .lay-out .ensures _ lens names _ own-lens own-names) (c .before .before .before .before .before .before .before .before .before .before .before .before .before .before .before .before .rank-all .ensures) (p .1 .1 .1 .0) (p .1 .1 .1 .1) (c .before .before .before .before .sweep-both .ensures)
 
 pub strike-spec : {M : Type 1} → statement M
 strike-spec =

@@ -6,7 +6,7 @@ use Rattle.settle.proofs.sweep.arrive.Statement.{statement}
 use Rattle.settle.proofs.sweep.arrive.Tie as tie
 
 returns : tie.Need-returns
-returns c = arrives-empty (c .before .before .before .before .before .before .pre .0) (c .before .before .before .before .before .before .pre .1) (c .if1 .taken)
+returns c = let p = c .before .before .before .before .before .before .pre in arrives-empty (p .0) (p .1) (c .if1 .taken)
 
 mul-rank : tie.Need-mul-rank
 mul-rank c = search needs
@@ -24,10 +24,10 @@ returns-2 : tie.Need-returns-2
 returns-2 c = arrives-own (c .before .before .before .before .before .before .before .before .before .before .before .before .pre .0) (c .before .before .before .before .before .before .if1 .left) (c .before .before .before .before .if2 .taken) (c .before .before .raise .ensures)
 
 mark-from-requires : tie.Need-mark-from-requires
-mark-from-requires c κs = let h = c .before .before .if2 .left in (omega (arith, c .before .before .before .before .before .before .before .before .before .before .pre .4), c .before .before .before .before .before .before .before .before .before .before .pre .0, c .before .before .before .before .before .before .before .before .before .before .pre .3)
+mark-from-requires c κs = let p = c .before .before .before .before .before .before .before .before .before .before .pre in let h = c .before .before .if2 .left in (omega (arith, p .4), p .0, p .3)
 
 mark-above-requires : tie.Need-mark-above-requires
-mark-above-requires c κs = let h = c .before .before .before .before .before .before .before .if2 .left in (omega (arith, c .before .before .before .before .before .before .before .before .before .before .before .before .before .before .before .pre .5), c .before .before .before .before .before .before .before .before .before .before .before .before .before .before .before .pre .1, c .before .before .before .before .before .before .before .before .before .before .before .before .before .before .before .pre .3)
+mark-above-requires c κs = let p = c .before .before .before .before .before .before .before .before .before .before .before .before .before .before .before .pre in let h = c .before .before .before .before .before .before .before .if2 .left in (omega (arith, p .5), p .1, p .3)
 
 raise-requires-2 : tie.Need-raise-requires-2
 raise-requires-2 c κs = search needs
@@ -45,7 +45,7 @@ same-length-5 : tie.Need-same-length-5
 same-length-5 c = search needs
 
 returns-3 : tie.Need-returns-3
-returns-3 c = arrives-held (c .before .before .before .before .before .before .before .before .before .before .before .before .before .before .before .before .before .before .before .before .before .before .pre .1) (c .before .before .before .before .before .before .before .before .before .before .before .before .before .before .before .before .if1 .left) (c .before .before .before .before .before .before .before .before .before .before .before .before .before .before .if2 .left) (c .before .before .before .before .before .before .before .before .before .before .before .before .before .before .before .before .before .before .before .before .before .before .pre .4) (c .before .before .before .before .before .before .before .before .before .before .before .before .before .before .before .before .before .before .before .before .before .before .pre .5) (c .before .before .before .before .before .before .before .before .before .before .before .mark-from .ensures) (c .before .before .before .before .before .before .mark-above .ensures) (c .before .before .raise2 .ensures)
+returns-3 c = let p = c .before .before .before .before .before .before .before .before .before .before .before .before .before .before .before .before .before .before .before .before .before .before .pre in arrives-held (p .1) (c .before .before .before .before .before .before .before .before .before .before .before .before .before .before .before .before .if1 .left) (c .before .before .before .before .before .before .before .before .before .before .before .before .before .before .if2 .left) (p .4) (p .5) (c .before .before .before .before .before .before .before .before .before .before .before .mark-from .ensures) (c .before .before .before .before .before .before .mark-above .ensures) (c .before .before .raise2 .ensures)
 
 pub arrive-spec : {M : Type 1} → statement M
 arrive-spec =

@@ -17,10 +17,10 @@ same-length : tie.Need-same-length
 same-length c = search needs
 
 returns : tie.Need-returns
-returns c = mark-new (c .before .before .before .before .before .args .marks .now) (c .before .before .before .before .before .args .i) _ _ (c .before .if1 .taken) (c .from .ensures)
+returns c = mark-new (c .before .before .before .before .before .args .marks .now) _ _ _ (c .before .if1 .taken) (c .from .ensures)
 
 returns-2 : tie.Need-returns-2
-returns-2 c = mark-kept (c .before .before .before .before .args .marks .now) (c .before .before .before .before .args .i) _ (c .if1 .left)
+returns-2 c = mark-kept _ _ _ (c .if1 .left)
 
 pub mark-from-spec : {M : Type 1} → statement M
 mark-from-spec =

@@ -14,7 +14,7 @@ sub-read-2 : tie.Need-sub-read-2
 sub-read-2 c = let l = length-pairs (c .before .before .before .args .order .now) in let h = c .before .before .before .pre .0 in omega arith
 
 read-requires : tie.Need-read-requires
-read-requires c κs = next-there (c .before .before .before .args .order .now) (pairs (c .before .before .before .args .facts .now)) _ (c .before .before .before .args .back) (c .before .before .before .pre .0) (c .before .before .before .pre .1)
+read-requires c κs = next-there _ (pairs _) _ (c .before .before .before .args .back) (c .before .before .before .pre .0) (c .before .before .before .pre .1)
 
 sub-t11 : tie.Need-sub-t11
 sub-t11 c = search needs
@@ -23,13 +23,13 @@ sub-t12 : tie.Need-sub-t12
 sub-t12 c = search needs
 
 returns : tie.Need-returns
-returns c = next-back (c .before .before .before .before .before .before .args .order .now) (pairs (c .before .before .before .before .before .before .args .facts .now)) _ _ (c .before .before .before .before .before .before .pre .0) (c .before .before .before .before .before .before .pre .1) (c .before .before .before .if1 .taken) _ (c .before .before .read .ensures)
+returns c = let p = c .before .before .before .before .before .before .pre in next-back _ (pairs _) _ _ (p .0) (p .1) (c .before .before .before .if1 .taken) _ (c .before .before .read .ensures)
 
 read-requires-2 : tie.Need-read-requires-2
-read-requires-2 c κs = next-here (c .before .before .before .args .order .now) (pairs (c .before .before .before .args .facts .now)) _ (c .before .before .before .args .back) (c .before .before .before .pre .0) (c .before .before .before .pre .1)
+read-requires-2 c κs = next-here _ (pairs _) _ (c .before .before .before .args .back) (c .before .before .before .pre .0) (c .before .before .before .pre .1)
 
 returns-2 : tie.Need-returns-2
-returns-2 c = next-forth (c .before .before .before .before .args .order .now) (pairs (c .before .before .before .before .args .facts .now)) _ _ (c .before .before .before .before .pre .0) (c .before .before .before .before .pre .1) (c .before .if1 .left) _ (c .read2 .ensures)
+returns-2 c = let p = c .before .before .before .before .pre in next-forth _ (pairs _) _ _ (p .0) (p .1) (c .before .if1 .left) _ (c .read2 .ensures)
 
 pub next-spec : {M : Type 1} → statement M
 next-spec =

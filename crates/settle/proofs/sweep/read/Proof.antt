@@ -12,7 +12,7 @@ get-requires-2 : tie.Need-get-requires-2
 get-requires-2 c κs = read-place _ _ _ (c .get .ensures) (c .before .before .before .pre .1)
 
 returns : tie.Need-returns
-returns c = read-at (pairs (c .before .before .before .before .args .order .now)) (pairs (c .before .before .before .before .args .facts .now)) _ _ _ (c .before .before .before .before .pre .0) (c .before .get .ensures) (c .get2 .ensures)
+returns c = read-at (pairs _) (pairs _) _ _ _ (c .before .before .before .before .pre .0) (c .before .get .ensures) (c .get2 .ensures)
 
 pub read-spec : {M : Type 1} → statement M
 read-spec = tie.close (tie.spec get-requires get-requires-2 returns)

@@ -28,19 +28,19 @@ slice-aggregate-arrive-2 : tie.Need-slice-aggregate-arrive-2 Inv-loop μ-loop
 slice-aggregate-arrive-2 c = sym (c .before .before .before .before .loop .inv .own-tree .size)
 
 arrive-requires : tie.Need-arrive-requires Inv-loop μ-loop
-arrive-requires c κs = let g = c .before .before .before .before .before .before .loop .inv in
-    let o = way-owner (c .before .before .before .before .before .before .before .before .before .before .before .before .args .order .now) (pairs (c .before .before .before .before .before .before .before .before .before .before .before .before .args .facts .now)) _ _ _ _ (c .before .before .before .before .before .before .before .before .before .before .before .before .pre) (c .before .before .before .before .before .before .before .before .before .before .before .before .args .back) _ _ (c .before .before .before .before .next .ensures) (half-in (c .before .before .before .before .before .before .before .before .before .before .before .before .args .order .now) _ _ refl (c .before .before .before .before .before .loop-test .taken)) in
-    (g .held-tree, g .own-tree, o .0, o .1, omega (arith, g .marks .over-size, c .before .before .before .before .before .before .before .before .before .before .before .before .pre .over-room), omega (arith, g .marks .under-size, c .before .before .before .before .before .before .before .before .before .before .before .before .pre .under-room))
+arrive-requires c κs = let p = c .before .before .before .before .before .before .before .before .before .before .before .before .pre in let g = c .before .before .before .before .before .before .loop .inv in
+    let o = way-owner _ (pairs _) _ _ _ _ (p) _ _ _ (c .before .before .before .before .next .ensures) (half-in _ _ _ refl (c .before .before .before .before .before .loop-test .taken)) in
+    (g .held-tree, g .own-tree, o .0, o .1, omega (arith, g .marks .over-size, p .over-room), omega (arith, g .marks .under-size, p .under-room))
 
 add-t : tie.Need-add-t Inv-loop μ-loop
-add-t c = let h = half-in (c .before .before .before .before .before .before .before .before .before .before .before .before .before .before .before .before .before .before .before .args .order .now) _ _ refl (c .before .before .before .before .before .before .before .before .before .before .before .before .loop-test .taken) in let l = length-pairs (c .before .before .before .before .before .before .before .before .before .before .before .before .before .before .before .before .before .before .before .args .order .now) in omega arith
+add-t c = let a = c .before .before .before .before .before .before .before .before .before .before .before .before .before .before .before .before .before .before .before .args in let h = half-in (a .order .now) _ _ refl (c .before .before .before .before .before .before .before .before .before .before .before .before .loop-test .taken) in let l = length-pairs (a .order .now) in omega arith
 
 loop-less : tie.Need-loop-less Inv-loop μ-loop
 loop-less c = omega arith
 
 loop-again : tie.Need-loop-again Inv-loop μ-loop
-loop-again c = let w = way-length (c .before .before .before .before .before .before .before .before .before .before .before .before .before .before .before .before .before .before .before .args .order .now) (pairs (c .before .before .before .before .before .before .before .before .before .before .before .before .before .before .before .before .before .before .before .args .facts .now)) _ _ _ _ (c .before .before .before .before .before .before .before .before .before .before .before .before .before .before .before .before .before .before .before .pre) (c .before .before .before .before .before .before .before .before .before .before .before .before .before .before .before .before .before .before .before .args .back) in
-    let h = half-in (c .before .before .before .before .before .before .before .before .before .before .before .before .before .before .before .before .before .before .before .args .order .now) _ _ refl (c .before .before .before .before .before .before .before .before .before .before .before .before .loop-test .taken) in
+loop-again c = let a = c .before .before .before .before .before .before .before .before .before .before .before .before .before .before .before .before .before .before .before .args in let w = way-length _ (pairs _) _ _ _ _ (c .before .before .before .before .before .before .before .before .before .before .before .before .before .before .before .before .before .before .before .pre) (a .back) in
+    let h = half-in (a .order .now) _ _ refl (c .before .before .before .before .before .before .before .before .before .before .before .before .loop-test .taken) in
     sweep-on (c .before .before .before .before .before .before .before .before .before .before .before .before .before .loop .inv) _ (c .before .before .before .before .before .before .before .before .before .before .before .next .ensures) (omega arith) (c .before .before .before .before .before .before .arrive .ensures)
 
 same-length : tie.Need-same-length Inv-loop μ-loop
@@ -50,8 +50,8 @@ same-length-2 : tie.Need-same-length-2 Inv-loop μ-loop
 same-length-2 c = c .before .loop .inv .marks .under-size
 
 returns : tie.Need-returns Inv-loop μ-loop
-returns c = let w = way-length (c .before .before .before .before .before .before .before .args .order .now) (pairs (c .before .before .before .before .before .before .before .args .facts .now)) _ _ _ _ (c .before .before .before .before .before .before .before .pre) (c .before .before .before .before .before .before .before .args .back) in
-    let h = half-out (c .before .before .before .before .before .before .before .args .order .now) _ _ refl (c .loop-test .left) in
+returns c = let a = c .before .before .before .before .before .before .before .args in let w = way-length _ (pairs _) _ _ _ _ (c .before .before .before .before .before .before .before .pre) (a .back) in
+    let h = half-out (a .order .now) _ _ refl (c .loop-test .left) in
     sweep-ends (c .before .loop .inv) (omega arith)
 
 pub sweep-spec : {M : Type 1} → statement M

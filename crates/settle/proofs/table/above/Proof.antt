@@ -16,7 +16,7 @@ shared-slice-read-if1 : tie.Need-shared-slice-read-if1 Inv-loop μ-loop
 shared-slice-read-if1 c = omega arith
 
 returns : tie.Need-returns Inv-loop μ-loop
-returns c = sym (low-reach (c .before .before .before .pre .0) (c .before .before .before .args .rank + 1) (c .before .before .before .args .x) (c .if1 .taken))
+returns c = sym (low-reach (c .before .before .before .pre .0) (c .before .before .before .args .rank + 1) _ (c .if1 .taken))
 
 add-n : tie.Need-add-n Inv-loop μ-loop
 add-n c = omega arith

@@ -21,7 +21,7 @@ above-requires : tie.Need-above-requires
 above-requires c κs = search needs
 
 returns-2 : tie.Need-returns-2
-returns-2 c = c .above .ensures ∙ sym (from-above (c .before .before .before .before .pre .0) _ _ (c .before .before .before .before .pre .1) (c .before .if1 .left))
+returns-2 c = let p = c .before .before .before .before .pre in c .above .ensures ∙ sym (from-above (p .0) _ _ (p .1) (c .before .if1 .left))
 
 pub from-spec : {M : Type 1} → statement M
 from-spec =
