@@ -64,6 +64,23 @@ pub fn past_list(w: &[u64]) -> &[u64]
     past(past(w, 1), at(w, 0))
 }
 
+// What follows the first n lists.
+pub fn past_lists(w: &[u64], n: usize) -> &[u64] {
+    let mut i = 0;
+    let mut k = 0;
+    while k < n {
+        i = w.len() - past_list(&w[i..]).len();
+        k += 1;
+    }
+    &w[i..]
+}
+
+// Whether w begins with a list that is whole and has at most so many numbers.
+pub fn begins_with_list(w: &[u64], most: u64) -> bool {
+    let n = list(w).len() as u64;
+    w.len() > 0 && n == at(w, 0) && n <= most
+}
+
 // Whether two lists are the same.
 pub fn same(a: &[u64], b: &[u64]) -> bool
     ensures { λ r. ⌜ Same (now (a .entry)) (now (b .entry)) r ⌝ }
@@ -74,6 +91,53 @@ pub fn same(a: &[u64], b: &[u64]) -> bool
     let mut i = 0;
     while i < a.len() {
         if a[i] != b[i] {
+            return false;
+        }
+        i += 1;
+    }
+    true
+}
+
+// Whether all numbers are below the bound.
+pub fn below(numbers: &[u64], bound: u64) -> bool {
+    let mut i = 0;
+    while i < numbers.len() {
+        if numbers[i] >= bound {
+            return false;
+        }
+        i += 1;
+    }
+    true
+}
+
+// Copies the numbers, as many as there is room for, and hands back the copies.
+pub fn copied<'a>(numbers: &[u64], room: &'a mut [u64]) -> &'a mut [u64] {
+    let mut i = 0;
+    while i < numbers.len() && i < room.len() {
+        room[i] = numbers[i];
+        i += 1;
+    }
+    &mut room[0..i]
+}
+
+// The same as bytes, each number modulo 256.
+pub fn bytes_in<'a>(numbers: &[u64], room: &'a mut [u8]) -> &'a mut [u8] {
+    let mut i = 0;
+    while i < numbers.len() && i < room.len() {
+        room[i] = (numbers[i] % 256) as u8;
+        i += 1;
+    }
+    &mut room[0..i]
+}
+
+// Whether the bytes are the numbers.
+pub fn same_bytes(bytes: &[u8], numbers: &[u64]) -> bool {
+    if bytes.len() != numbers.len() {
+        return false;
+    }
+    let mut i = 0;
+    while i < bytes.len() {
+        if bytes[i] as u64 != numbers[i] {
             return false;
         }
         i += 1;
