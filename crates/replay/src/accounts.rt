@@ -1,7 +1,6 @@
-// The accounts' calls, on one record. A call: its number and four arguments, of which the first is a
-// tag; for a record made of lists three lists (tags, and two more); the refusal, whether it is so and a
-// value; how many rows there then are and the bytes reserved; the tag's row; and for the call that asks
-// for them all rows.
+// The accounts' calls, on one record. A call: its number, four arguments, of which the first is a tag,
+// and three lists (tags, and two more); the refusal, whether it is so and a value; how many rows there
+// then are and the bytes reserved; the tag's row; and for the call that asks for them all rows.
 use accounting::Accounting;
 use accounting::Asked;
 use accounting::Cap;
@@ -10,15 +9,12 @@ use accounting::Posted;
 use accounting::TagSpace;
 use accounting::extent_len;
 use sample::words::at;
-use sample::words::begins_with_list;
-use sample::words::below;
 use sample::words::bytes_in;
-use sample::words::first;
-use sample::words::list;
+use sample::words::has;
+use sample::words::nth_list;
 use sample::words::past;
-use sample::words::past_list;
 use sample::words::past_lists;
-use sample::words::same;
+use sample::words::whole;
 ghost use Prim.Native.Nat.{_<_};
 
 // The three numbers of a call's answer, and the accounts after it.
@@ -117,8 +113,8 @@ pub(crate) fn answered(call: &[u64], accounts: Accounting) -> Answer {
     let tag = tag_of(at(call, 1));
     match code {
         1 => plain(Accounting::empty()),
-        2 => made(accounts, usages_in(past(call, 5))),
-        3 => made(accounts, entries_in(past(call, 5), at(call, 4))),
+        2 => made(accounts, usages_in(call)),
+        3 => made(accounts, entries_in(call)),
         8 => asked(accounts.fits(tag, at(call, 2))),
         12 => plain(accounts),
         13 => measured(accounts, extent_len(at(call, 2), at(call, 3))),
@@ -137,63 +133,39 @@ fn tags_in<'a>(numbers: &[u64], tags: &'a mut [u32]) -> &'a mut [u32] {
 }
 
 // The accounts of usages: tags, data bytes, occupied bytes.
-fn usages_in(lists: &[u64]) -> Posted {
+fn usages_in(call: &[u64]) -> Posted {
     let mut room = [0u32; 128];
-    let tags = tags_in(list(lists), &mut room);
-    Accounting::from_usage(
-        tags,
-        list(past_list(lists)),
-        list(past_list(past_list(lists))),
-    )
+    let tags = tags_in(nth_list(call, 5, 0), &mut room);
+    Accounting::from_usage(tags, nth_list(call, 5, 1), nth_list(call, 5, 2))
 }
 
 // The accounts of entries: tags, data sizes, states.
-fn entries_in(lists: &[u64], block: u64) -> Posted {
+fn entries_in(call: &[u64]) -> Posted {
     let mut room = [0u32; 128];
     let mut states_room = [0u8; 128];
-    let tags = tags_in(list(lists), &mut room);
-    let states = bytes_in(list(past_list(past_list(lists))), &mut states_room);
-    Accounting::from_entries(states, tags, list(past_list(lists)), block)
-}
-
-// Whether the call makes the record of lists.
-fn has_lists(call: &[u64]) -> bool {
-    at(call, 0) == 2 || at(call, 0) == 3
-}
-
-// The Rust's answer.
-fn due_of(call: &[u64]) -> &[u64] {
-    if has_lists(call) {
-        return past_lists(past(call, 5), 3);
-    }
-    past(call, 5)
+    let tags = tags_in(nth_list(call, 5, 0), &mut room);
+    let states = bytes_in(nth_list(call, 5, 2), &mut states_room);
+    Accounting::from_entries(states, tags, nth_list(call, 5, 1), at(call, 4))
 }
 
 pub(crate) fn alike(call: &[u64], answer: Answer) -> bool {
     let accounts = answer.accounts;
-    let due = due_of(call);
+    let due = past_lists(call, 5, 3);
     known(call)
-        && numbers_alike(answer, first(due, 5))
-        && row_alike(accounts.row(tag_of(at(call, 1))), first(past(due, 5), 6))
-        && rows_alike(at(call, 0) == 12, accounts, past(due, 11))
+        && numbers_alike(answer, due)
+        && row_alike(accounts.row(tag_of(at(call, 1))), due, 5)
+        && rows_alike(at(call, 0) == 12, accounts, due)
 }
 
-// Whether a call is one of the thirteen, its tag is one, and its lists are no longer than there is
-// room for.
+// Whether a call is one of the thirteen, its tags are tags, its states are bytes, and there is room for
+// both.
 fn known(call: &[u64]) -> bool {
     let code = at(call, 0);
     code > 0
         && code <= 13
         && at(call, 1) < 0x1_0000_0000
-        && (!has_lists(call) || known_lists(code, past(call, 5)))
-}
-
-fn known_lists(code: u64, lists: &[u64]) -> bool {
-    let thirds = past_list(past_list(lists));
-    begins_with_list(lists, 128)
-        && begins_with_list(thirds, 128)
-        && below(list(lists), 0x1_0000_0000)
-        && (code != 3 || below(list(thirds), 256))
+        && whole(call, 5, 0, 128, 0xffff_ffff)
+        && (code != 3 || whole(call, 5, 2, 128, 255))
 }
 
 // The refusal, whether it is so, the value, how many rows there are and the bytes reserved.
@@ -201,23 +173,26 @@ fn numbers_alike(answer: Answer, due: &[u64]) -> bool {
     let accounts = answer.accounts;
     let so = answer.so as u64;
     let count = accounts.count as u64;
-    same(
-        &[answer.refusal, so, answer.value, count, accounts.reserved()],
+    has(
         due,
+        0,
+        &[answer.refusal, so, answer.value, count, accounts.reserved()],
     )
 }
 
-// Whether a row has these numbers: its tag, whether it has a cap, its three numbers, and the cap.
-fn row_alike(row: TagSpace, due: &[u64]) -> bool {
+// Whether a row's numbers stand at a place: its tag, whether it has a cap, its three numbers, the cap.
+fn row_alike(row: TagSpace, due: &[u64], from: u64) -> bool {
     let cap = row.cap;
     match cap {
-        Cap::Nothing => numbers_of_row_alike(row, 0, 0, due),
-        Cap::Limit(limit) => numbers_of_row_alike(row, 1, limit, due),
+        Cap::Nothing => capped_alike(row, 0, 0, due, from),
+        Cap::Limit(limit) => capped_alike(row, 1, limit, due, from),
     }
 }
 
-fn numbers_of_row_alike(row: TagSpace, capped: u64, limit: u64, due: &[u64]) -> bool {
-    same(
+fn capped_alike(row: TagSpace, capped: u64, limit: u64, due: &[u64], from: u64) -> bool {
+    has(
+        due,
+        from,
         &[
             row.tag as u64,
             capped,
@@ -226,18 +201,17 @@ fn numbers_of_row_alike(row: TagSpace, capped: u64, limit: u64, due: &[u64]) -> 
             row.reserved,
             limit,
         ],
-        due,
     )
 }
 
-// Whether all rows are these, where the call asks for them, and else that there are none.
+// Whether all rows follow, where the call asks for them, and else nothing.
 fn rows_alike(all: bool, accounts: Accounting, due: &[u64]) -> bool {
-    let n = due.len() as u64;
+    let rows = past(due, 11);
+    let n = rows.len() as u64;
     if !all {
         return n == 0;
     }
-    let count = accounts.count as u64;
-    n % 6 == 0 && n / 6 == count && each_alike(accounts, due)
+    n % 6 == 0 && n / 6 == accounts.count as u64 && each_alike(accounts, rows)
 }
 
 // Whether the rows in tag order are these, and blank behind them.
@@ -256,9 +230,8 @@ fn place_alike(accounts: Accounting, due: &[u64], i: usize) -> bool
     requires { ⌜ i < 98 ⌝ }
 {
     let row = accounts.row_at(i);
-    let rest = past(due, 6 * i as u64);
-    if rest.len() == 0 {
-        return row_alike(row, &[0, 0, 0, 0, 0, 0]);
+    if 6 * i < due.len() {
+        return row_alike(row, due, 6 * i as u64);
     }
-    row_alike(row, first(rest, 6))
+    row_alike(row, &[0, 0, 0, 0, 0, 0], 0)
 }

@@ -6,12 +6,12 @@ use footprint::Header;
 use footprint::Limits;
 use footprint::RegionKind;
 use sample::words::at;
-use sample::words::first;
+use sample::words::ends;
 use sample::words::front;
-use sample::words::list;
+use sample::words::has;
+use sample::words::nth_list;
 use sample::words::past;
-use sample::words::past_list;
-use sample::words::same;
+use sample::words::past_lists;
 
 fn byte(x: u64) -> u8 {
     (x % 256) as u8
@@ -68,15 +68,13 @@ fn header_of(call: &[u64]) -> Header {
 }
 
 pub(crate) fn alike(call: &[u64]) -> bool {
-    let due = past_list(past(call, 20));
+    let due = past_lists(call, 20, 1);
     let places = at(due, 0);
-    let after = past(due, 5);
     let mut scratch = [7u64; 128];
     let mut again = [7u64; 128];
-    due.len() >= 5
-        && after.len() as u64 == places
+    past(due, 5).len() as u64 == places
         && handed_alike(call, due, front(&mut scratch, places))
-        && filled_alike(call, after, front(&mut again, places))
+        && filled_alike(call, due, front(&mut again, places))
 }
 
 // Whether check_region answers alike and hands back the same part.
@@ -89,7 +87,7 @@ fn handed_alike(call: &[u64], due: &[u64], scratch: &mut [u64]) -> bool {
         at(call, 3),
         entry_of(call),
         header_of(call),
-        list(past(call, 20)),
+        nth_list(call, 20, 0),
         scratch,
         &mut refusal,
         &mut offset,
@@ -99,19 +97,18 @@ fn handed_alike(call: &[u64], due: &[u64], scratch: &mut [u64]) -> bool {
 }
 
 fn part_alike(due: &[u64], refusal: u64, offset: u64, len: u64, part: &[u64]) -> bool {
-    let n = part.len() as u64;
-    same(&[refusal, offset, len, n], first(past(due, 1), 4)) && same(part, first(past(due, 5), n))
+    has(due, 1, &[refusal, offset, len, part.len() as u64]) && has(due, 5, part)
 }
 
 // Whether fill_footprint leaves every place of scratch alike.
-fn filled_alike(call: &[u64], after: &[u64], scratch: &mut [u64]) -> bool {
+fn filled_alike(call: &[u64], due: &[u64], scratch: &mut [u64]) -> bool {
     footprint::fill_footprint(
         limits_of(call),
         at(call, 3),
         entry_of(call),
         header_of(call),
-        list(past(call, 20)),
+        nth_list(call, 20, 0),
         scratch,
     );
-    same(scratch, after)
+    ends(due, 5, scratch)
 }

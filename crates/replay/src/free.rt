@@ -6,14 +6,14 @@ use freemap::Fit;
 use freemap::FreeBytes;
 use freemap::FreeMap;
 use sample::words::at;
-use sample::words::begins_with_list;
 use sample::words::copied;
-use sample::words::first;
 use sample::words::front;
-use sample::words::list;
+use sample::words::has;
+use sample::words::kept;
+use sample::words::nth_list;
 use sample::words::past;
-use sample::words::past_list;
-use sample::words::same;
+use sample::words::past_lists;
+use sample::words::whole;
 
 pub(crate) struct FreeState {
     map: FreeMap,
@@ -40,7 +40,7 @@ pub(crate) fn replay(before: FreeState, call: &[u64]) -> FreeNext {
     let map = before.map;
     let mut gaps = before.gaps;
     let mut room = [0u64; 64];
-    let ranges = copied(list(past(call, 5)), &mut room);
+    let ranges = copied(nth_list(call, 5, 0), &mut room);
     let answer = answered(call, map, ranges, front(&mut gaps, at(call, 4)));
     let map = answer.map;
     let state = FreeState { map, gaps };
@@ -110,7 +110,7 @@ fn answered(call: &[u64], map: FreeMap, ranges: &mut [u64], gaps: &mut [u64]) ->
 // Whether a call is one of the three, and there are as many slots and ranges as it says.
 fn known(call: &[u64]) -> bool {
     let code = at(call, 0);
-    code > 0 && code <= 3 && at(call, 4) <= 64 && begins_with_list(past(call, 5), 64)
+    code > 0 && code <= 3 && at(call, 4) <= 64 && whole(call, 5, 0, 64, 0xffff_ffff_ffff_ffff)
 }
 
 // Given the ranges after the call.
@@ -121,14 +121,11 @@ fn alike(
     after: FreeState,
     ranges: &[u64],
 ) -> bool {
-    let due = past_list(past(call, 5));
-    let n = ranges.len() as u64;
-    same(
-        &[answer.refusal, answer.second, answer.third],
-        first(due, 3),
-    )
-        && same(ranges, first(past(due, 3), n))
-        && gaps_alike(written(call, answer), past(past(due, 3), n), before, after)
+    let due = past_lists(call, 5, 1);
+    let gaps = past(past(due, 3), ranges.len() as u64);
+    has(due, 0, &[answer.refusal, answer.second, answer.third])
+        && has(due, 3, ranges)
+        && gaps_alike(written(call, answer), gaps, before, after)
 }
 
 // Whether the gaps written are those that the call says, and all slots behind them are as before.
@@ -136,8 +133,8 @@ fn gaps_alike(count: u64, gaps: &[u64], before: FreeState, after: FreeState) -> 
     let n = gaps.len() as u64;
     n % 2 == 0
         && n / 2 == count
-        && same(first(&after.gaps, n), gaps)
-        && same(past(&before.gaps, n), past(&after.gaps, n))
+        && has(&after.gaps, 0, gaps)
+        && kept(&before.gaps, &after.gaps, 0, n)
 }
 
 // How many gaps a call writes.

@@ -6,11 +6,11 @@ use regionmap::Located;
 use regionmap::Mapped;
 use regionmap::RegionMap;
 use sample::words::at;
-use sample::words::first;
 use sample::words::front;
-use sample::words::list;
-use sample::words::past;
-use sample::words::past_list;
+use sample::words::has;
+use sample::words::kept;
+use sample::words::nth_list;
+use sample::words::past_lists;
 use sample::words::same;
 
 pub(crate) struct RegionState {
@@ -110,7 +110,7 @@ fn changed(call: &[u64], map: RegionMap, starts: &mut [u64], files: &mut [u64]) 
     let code = at(call, 0);
     let a = at(call, 1);
     match code {
-        1 => RegionMap::from_extents(list(past(call, 4)), a, starts, files),
+        1 => RegionMap::from_extents(nth_list(call, 4, 0), a, starts, files),
         2 => map.with_room(a as usize, starts, files),
         3 => map.publish_len(a),
         _ => map.extend(a, at(call, 2), starts, files),
@@ -143,7 +143,7 @@ fn alike(
     known(call)
         && numbers_alike(call, answer, after)
         && slots_kept(written_from(call, answer, before), answer, before, after)
-        && (at(call, 0) != 6 || runs_alike(list(past(call, 4)), answer.value, out))
+        && (at(call, 0) != 6 || runs_alike(nth_list(call, 4, 0), answer.value, out))
 }
 
 // Whether a call is one of the six, and is lent no more places than there are.
@@ -167,7 +167,7 @@ fn numbers_alike(call: &[u64], answer: RegionAnswer, after: RegionState) -> bool
         last(&after.starts, count),
         last(&after.files, count),
     ];
-    same(&numbers, past_list(past(call, 4)))
+    same(&numbers, past_lists(call, 4, 1))
 }
 
 // The last of the first count slots, 0 where count is 0.
@@ -193,16 +193,8 @@ fn slots_kept(from: u64, answer: RegionAnswer, before: RegionState, after: Regio
     kept(&before.starts, &after.starts, from, to) && kept(&before.files, &after.files, from, to)
 }
 
-// Whether all slots are the same but those from `from` to `to`.
-fn kept(before: &[u64], after: &[u64], from: u64, to: u64) -> bool {
-    same(first(before, from), first(after, from)) && same(past(before, to), past(after, to))
-}
-
 // Whether out begins with these runs, so many, and still holds 7 behind them.
 fn runs_alike(runs: &[u64], value: u64, out: &[u64]) -> bool {
     let n = runs.len() as u64;
-    n % 2 == 0
-        && n / 2 == value
-        && same(first(out, n), runs)
-        && same(past(out, n), past(&[7; 160], n))
+    n % 2 == 0 && n / 2 == value && has(out, 0, runs) && kept(&[7; 160], out, 0, n)
 }

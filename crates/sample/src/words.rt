@@ -64,21 +64,29 @@ pub fn past_list(w: &[u64]) -> &[u64]
     past(past(w, 1), at(w, 0))
 }
 
-// What follows the first n lists.
-pub fn past_lists(w: &[u64], n: usize) -> &[u64] {
+// What follows n lists, the first of which begins at a place.
+pub fn past_lists(w: &[u64], from: u64, n: usize) -> &[u64] {
+    let lists = past(w, from);
     let mut i = 0;
     let mut k = 0;
     while k < n {
-        i = w.len() - past_list(&w[i..]).len();
+        i = lists.len() - past_list(&lists[i..]).len();
         k += 1;
     }
-    &w[i..]
+    &lists[i..]
 }
 
-// Whether w begins with a list that is whole and has at most so many numbers.
-pub fn begins_with_list(w: &[u64], most: u64) -> bool {
-    let n = list(w).len() as u64;
-    w.len() > 0 && n == at(w, 0) && n <= most
+// List k of them, counted from 0.
+pub fn nth_list(w: &[u64], from: u64, k: usize) -> &[u64] {
+    list(past_lists(w, from, k))
+}
+
+// Whether list k of them is whole, and has at most so many numbers, each at most top.
+pub fn whole(w: &[u64], from: u64, k: usize, most: u64, top: u64) -> bool {
+    let lists = past_lists(w, from, k);
+    let numbers = list(lists);
+    let n = numbers.len() as u64;
+    lists.len() > 0 && n == at(lists, 0) && n <= most && up_to(numbers, top)
 }
 
 // Whether two lists are the same.
@@ -98,11 +106,26 @@ pub fn same(a: &[u64], b: &[u64]) -> bool
     true
 }
 
-// Whether all numbers are below the bound.
-pub fn below(numbers: &[u64], bound: u64) -> bool {
+// Whether w has these numbers from a place on.
+pub fn has(w: &[u64], from: u64, numbers: &[u64]) -> bool {
+    same(first(past(w, from), numbers.len() as u64), numbers)
+}
+
+// Whether w has these numbers from a place on, and nothing behind them.
+pub fn ends(w: &[u64], from: u64, numbers: &[u64]) -> bool {
+    same(past(w, from), numbers)
+}
+
+// Whether all slots are the same but those from `from` to `to`.
+pub fn kept(before: &[u64], after: &[u64], from: u64, to: u64) -> bool {
+    has(after, 0, first(before, from)) && ends(after, to, past(before, to))
+}
+
+// Whether each number is at most top.
+fn up_to(numbers: &[u64], top: u64) -> bool {
     let mut i = 0;
     while i < numbers.len() {
-        if numbers[i] >= bound {
+        if numbers[i] > top {
             return false;
         }
         i += 1;

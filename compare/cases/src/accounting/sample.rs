@@ -37,13 +37,13 @@ fn lists_of<T: Copy + Into<u64>>(tags: &[u32], second: &[u64], third: &[T]) -> S
     assert!(tags.len().max(third.len()) <= PLACES);
     let tags: Vec<u64> = tags.iter().map(|&t| t.into()).collect();
     let third: Vec<u64> = third.iter().map(|&n| n.into()).collect();
-    format!(", {}, {}, {}", list(&tags), list(second), list(&third))
+    format!("{}, {}, {}", list(&tags), list(second), list(&third))
 }
 
 fn asked(call: &Call) -> Asked {
     let word = CALLS[call.kind()];
     let code = 1 + call.kind() as u64;
-    let with = |tag: u32, a: u64, b: u64| (word, [code, tag.into(), a, b, 0], String::new());
+    let with = |tag: u32, a: u64, b: u64| (word, [code, tag.into(), a, b, 0], lists_of::<u64>(&[], &[], &[]));
     match *call {
         Call::Empty => with(0, 0, 0),
         Call::FromUsage {
@@ -112,7 +112,7 @@ impl Text<'_> {
         let [refusal, yes, value] = answer;
         let [t, capped, logical, physical, reserved, cap] = numbers(&row);
         self.text += &format!(
-            "{word} 8.{code}: {tag} {a} {b} {c}{lists} = {refusal} {yes} {value}, {} {}, {t} {capped} {logical} {physical} {reserved} {cap},{}\n",
+            "{word} 8.{code}: {tag} {a} {b} {c}, {lists} = {refusal} {yes} {value}, {} {}, {t} {capped} {logical} {physical} {reserved} {cap},{}\n",
             due.count,
             due.reserved,
             words(&rows.iter().flat_map(numbers).collect::<Vec<_>>()),
@@ -150,7 +150,7 @@ impl Text<'_> {
     fn rows(&mut self) {
         let due = self.sides.due;
         self.line(
-            ("rows", [12, 0, 0, 0, 0], String::new()),
+            ("rows", [12, 0, 0, 0, 0], lists_of::<u64>(&[], &[], &[])),
             [0; 3],
             &due.rows[..due.count],
         );
@@ -160,7 +160,7 @@ impl Text<'_> {
     fn extent(&mut self, size: u64, block: u64) {
         let len = entry(true, 0, size).extent_len(block);
         let answer = [0, len.is_some().into(), len.unwrap_or(0)];
-        self.line(("extent", [13, 0, size, block, 0], String::new()), answer, &[]);
+        self.line(("extent", [13, 0, size, block, 0], lists_of::<u64>(&[], &[], &[])), answer, &[]);
     }
 }
 

@@ -19,12 +19,10 @@ fn of_bytes(bytes: &[u8]) -> String {
     list(&numbers(bytes))
 }
 
-/// A count of records and their five lists: sequence numbers, counts, ranges, lengths of names,
-/// names.
+/// The five lists of a kind of records: sequence numbers, counts, ranges, lengths of names, names.
 fn kind(word: &str, kind: &Kind) -> String {
     format!(
-        "{word} {}; {}, {}, {}, {}, {}; ",
-        kind.count,
+        "{word} {}, {}, {}, {}, {}; ",
         list(&kind.seqs),
         list(&kind.counts),
         list(&kind.ranges),
@@ -33,15 +31,17 @@ fn kind(word: &str, kind: &Kind) -> String {
     )
 }
 
-/// A line: the usable records and the unavailable ones, each a count and five lists (sequence
-/// numbers, counts, ranges, lengths of names, names); the length of scratch, the list of marks
-/// before; the refusal, the marks after. A list is its length and its numbers.
+/// A line: how many usable records and how many unavailable ones, the length of scratch; five lists of
+/// each (sequence numbers, counts, ranges, lengths of names, names), the list of marks before; the
+/// refusal, the marks after. A list is its length and its numbers.
 fn line(lists: &Lists, due: &Answer) -> String {
     format!(
-        "settle 6: {}{}scratch {}, marks {} = {}{}\n",
+        "settle 6: {} {} {}; {}{}marks {} = {}{}\n",
+        lists.usable.count,
+        lists.unavailable.count,
+        lists.scratch.len(),
         kind("usable", &lists.usable),
         kind("unavailable", &lists.unavailable),
-        lists.scratch.len(),
         of_bytes(&lists.marks),
         due.refusal,
         words(&numbers(&due.marks)),
@@ -138,7 +138,7 @@ fn drawn(
 /// Lines `usable .. unavailable .. scratch .. marks .. = ..`, each as `line` says.
 pub fn sample(random: &mut Random) -> String {
     let mut text = String::from(
-        "-- footprint.rs of the engine: usable and unavailable records, each a count and five lists (numbers, counts, ranges, lengths of names, names); scratch's length, marks before = refusal, marks after.
+        "-- footprint.rs of the engine: how many usable records, how many unavailable ones, the length of scratch; five lists of each (numbers, counts, ranges, lengths of names, names), marks before = refusal, marks after.
 ",
     );
     let mut tally = Tally::default();
@@ -161,7 +161,7 @@ pub fn sample(random: &mut Random) -> String {
         // a short line; and every other one with a superseded record, where there can be one
         let wanted = |lists: &Lists, due: &Answer| {
             let superseded = due.marks.iter().any(|m| m & SUPERSEDED != 0);
-            line(lists, due).len() < 117 + 85 * (usable + unavailable)
+            line(lists, due).len() < 107 + 85 * (usable + unavailable)
                 && (superseded || unavailable == 0 || i % 2 == 1)
         };
         tell(&drawn(usable, unavailable, n, wanted, random));

@@ -7,10 +7,13 @@ use Rattle.sample.proofs.words.past_lists.Statement.{statement}
 use Rattle.sample.proofs.words.past_lists.Tie as tie
 
 abbrev Inv-loop : tie.InvT-loop
-Inv-loop w n i₀ k₀ i k = (i ≤ length w) × (k ≤ n)
+Inv-loop w from n lists i₀ k₀ i k = (i ≤ length lists) × (k ≤ n)
 
 abbrev μ-loop : tie.MeasureT-loop
-μ-loop w n i₀ k₀ i k = n - k
+μ-loop w from n lists i₀ k₀ i k = n - k
+
+past-requires : tie.Need-past-requires Inv-loop μ-loop
+past-requires c κs = search needs
 
 loop-holds : tie.Need-loop-holds Inv-loop μ-loop
 loop-holds c = omega arith
@@ -63,6 +66,7 @@ past-lists-spec =
     (tie.spec
     Inv-loop
     μ-loop
+    past-requires
     loop-holds
     mul-past-list
     sub-past-list

@@ -1,16 +1,16 @@
--- `sample::words::below` is safe and ends.
+-- `sample::words::up_to` is safe and ends.
 use Prim.Native.Nat.{_-_, _≤_}
 use native.Mathlib.Omega.{arith}
 use lib.ListN.{length}
 use borrow.Author.Needs.{needs}
-use Rattle.sample.proofs.words.below.Statement.{statement}
-use Rattle.sample.proofs.words.below.Tie as tie
+use Rattle.sample.proofs.words.up_to.Statement.{statement}
+use Rattle.sample.proofs.words.up_to.Tie as tie
 
 abbrev Inv-loop : tie.InvT-loop
-Inv-loop numbers bound i₀ i = i ≤ length numbers
+Inv-loop numbers top i₀ i = i ≤ length numbers
 
 abbrev μ-loop : tie.MeasureT-loop
-μ-loop numbers bound i₀ i = length numbers - i
+μ-loop numbers top i₀ i = length numbers - i
 
 loop-holds : tie.Need-loop-holds Inv-loop μ-loop
 loop-holds c = omega arith
@@ -36,8 +36,8 @@ loop-again c = omega arith
 returns-2 : tie.Need-returns-2 Inv-loop μ-loop
 returns-2 c = search needs
 
-pub below-spec : {M : Type 1} → statement M
-below-spec =
+pub up-to-spec : {M : Type 1} → statement M
+up-to-spec =
     tie.close
     (tie.spec
     Inv-loop
