@@ -15,7 +15,9 @@ use sample::words::past;
 use sample::words::past_lists;
 use sample::words::whole;
 
+// With whether the last call was answered alike.
 pub(crate) struct FreeState {
+    pub(crate) alike: bool,
     map: FreeMap,
     gaps: [u64; 64],
 }
@@ -24,28 +26,29 @@ impl FreeState {
     // The state before the first call.
     pub(crate) fn new() -> FreeState {
         FreeState {
+            alike: true,
             map: FreeMap { count: 0, tail: 0 },
             gaps: [7; 64],
         }
     }
 }
 
-// The state after a call, and whether the call was answered alike.
-pub(crate) struct FreeNext {
-    pub(crate) state: FreeState,
-    pub(crate) alike: bool,
-}
-
-pub(crate) fn replay(before: FreeState, call: &[u64]) -> FreeNext {
+// The state after a call.
+pub(crate) fn replay(before: FreeState, call: &[u64]) -> FreeState {
     let map = before.map;
     let mut gaps = before.gaps;
     let mut room = [0u64; 64];
     let ranges = copied(nth_list(call, 5, 0), &mut room);
     let answer = answered(call, map, ranges, front(&mut gaps, at(call, 4)));
     let map = answer.map;
-    let state = FreeState { map, gaps };
-    let alike = known(call) && alike(call, answer, before, state, ranges);
-    FreeNext { state, alike }
+    let mut after = FreeState {
+        alike: false,
+        map,
+        gaps,
+    };
+    let alike = alike(call, answer, before, after, ranges);
+    after.alike = alike;
+    after
 }
 
 // The three numbers of a call's answer, and the map after it.
@@ -123,7 +126,8 @@ fn alike(
 ) -> bool {
     let due = past_lists(call, 5, 1);
     let gaps = past(past(due, 3), ranges.len() as u64);
-    has(due, 0, &[answer.refusal, answer.second, answer.third])
+    known(call)
+        && has(due, 0, &[answer.refusal, answer.second, answer.third])
         && has(due, 3, ranges)
         && gaps_alike(written(call, answer), gaps, before, after)
 }

@@ -13,7 +13,9 @@ use sample::words::nth_list;
 use sample::words::past_lists;
 use sample::words::same;
 
+// With whether the last call was answered alike.
 pub(crate) struct RegionState {
+    pub(crate) alike: bool,
     map: RegionMap,
     starts: [u64; 64],
     files: [u64; 64],
@@ -23,6 +25,7 @@ impl RegionState {
     // The state before the first call.
     pub(crate) fn new() -> RegionState {
         RegionState {
+            alike: true,
             map: RegionMap {
                 first: 0,
                 len: 0,
@@ -36,13 +39,8 @@ impl RegionState {
     }
 }
 
-// The state after a call, and whether the call was answered alike.
-pub(crate) struct RegionNext {
-    pub(crate) state: RegionState,
-    pub(crate) alike: bool,
-}
-
-pub(crate) fn replay(before: RegionState, call: &[u64]) -> RegionNext {
+// The state after a call.
+pub(crate) fn replay(before: RegionState, call: &[u64]) -> RegionState {
     let map = before.map;
     let mut starts = before.starts;
     let mut files = before.files;
@@ -56,9 +54,15 @@ pub(crate) fn replay(before: RegionState, call: &[u64]) -> RegionNext {
         front(&mut out, at(call, 1)),
     );
     let map = answer.map;
-    let state = RegionState { map, starts, files };
-    let alike = alike(call, answer, before, state, &out);
-    RegionNext { state, alike }
+    let mut after = RegionState {
+        alike: false,
+        map,
+        starts,
+        files,
+    };
+    let alike = alike(call, answer, before, after, &out);
+    after.alike = alike;
+    after
 }
 
 // The refusal and the value of a call, each 0 where there is none, and the map after it.

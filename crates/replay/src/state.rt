@@ -15,8 +15,10 @@ use sample::words::at;
 use sample::words::list;
 use sample::words::past;
 
+// With whether the last case was answered alike.
 pub(crate) struct State {
     pub(crate) tally: Tally,
+    alike: bool,
     region: RegionState,
     free: FreeState,
     accounts: Accounting,
@@ -27,6 +29,7 @@ impl State {
     pub(crate) fn new() -> State {
         State {
             tally: Tally::new(),
+            alike: true,
             region: RegionState::new(),
             free: FreeState::new(),
             accounts: Accounting::empty(),
@@ -34,33 +37,51 @@ impl State {
     }
 }
 
-// The state after a case, and whether the case was answered alike.
-struct Next {
-    state: State,
-    alike: bool,
-}
-
 // The state after the case that w begins with: its length, and so many numbers.
 pub(crate) fn replay(state: State, w: &[u64]) -> State {
     let case = list(w);
-    let next = answered(state, case);
-    let mut after = next.state;
-    let alike = next.alike && case.len() as u64 == at(w, 0);
+    let mut after = answered(state, case);
+    let whole = case.len() as u64 == at(w, 0);
     let tally = after.tally;
-    after.tally = tally.counted(at(case, 0), alike);
+    after.tally = tally.counted(at(case, 0), after.alike && whole);
     after
 }
 
 // A case is its module's number, and what that module's file says.
-fn answered(state: State, case: &[u64]) -> Next {
+fn answered(mut state: State, case: &[u64]) -> State {
     let module = at(case, 0);
     let call = past(case, 1);
     match module {
         5 => on_region(state, call),
         7 => on_free(state, call),
         8 => on_accounts(state, call),
-        _ => kept(state, alike(module, call)),
+        _ => {
+            state.alike = alike(module, call);
+            state
+        }
     }
+}
+
+fn on_region(mut state: State, call: &[u64]) -> State {
+    let region = region::replay(state.region, call);
+    state.region = region;
+    state.alike = region.alike;
+    state
+}
+
+fn on_free(mut state: State, call: &[u64]) -> State {
+    let free = free::replay(state.free, call);
+    state.free = free;
+    state.alike = free.alike;
+    state
+}
+
+fn on_accounts(mut state: State, call: &[u64]) -> State {
+    let answer = accounts::answered(call, state.accounts);
+    let after = answer.accounts;
+    state.accounts = after;
+    state.alike = accounts::alike(call, answer);
+    state
 }
 
 // Whether a call that leaves the state as it is is answered alike.
@@ -73,29 +94,4 @@ fn alike(module: u64, call: &[u64]) -> bool {
         6 => settled::alike(call),
         _ => false,
     }
-}
-
-fn kept(state: State, alike: bool) -> Next {
-    Next { state, alike }
-}
-
-fn on_region(mut state: State, call: &[u64]) -> Next {
-    let next = region::replay(state.region, call);
-    let after = next.state;
-    state.region = after;
-    kept(state, next.alike)
-}
-
-fn on_free(mut state: State, call: &[u64]) -> Next {
-    let next = free::replay(state.free, call);
-    let after = next.state;
-    state.free = after;
-    kept(state, next.alike)
-}
-
-fn on_accounts(mut state: State, call: &[u64]) -> Next {
-    let answer = accounts::answered(call, state.accounts);
-    let after = answer.accounts;
-    state.accounts = after;
-    kept(state, accounts::alike(call, answer))
 }
