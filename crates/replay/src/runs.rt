@@ -2,10 +2,11 @@
 use footprint::RunCount;
 use sample::words::at;
 use sample::words::first;
+use sample::words::has;
+use sample::words::kept;
 use sample::words::list;
 use sample::words::past;
 use sample::words::past_list;
-use sample::words::same;
 
 pub(crate) fn alike(call: &[u64]) -> bool {
     let mut starts = [7u64; 32];
@@ -23,13 +24,12 @@ fn lists_alike(due: &[u64], n: u64, starts: &[u64], files: &[u64], lens: &[u64])
     let rest = past(past(due, 1), n);
     due.len() > 0
         && at(due, 0) == n
-        && begins(starts, first(past(due, 1), n))
-        && begins(files, first(rest, n))
-        && begins(lens, past(rest, n))
+        && begins(starts, n, first(past(due, 1), n))
+        && begins(files, n, first(rest, n))
+        && begins(lens, n, past(rest, n))
 }
 
-// Whether the slots begin with these, and the next still holds 7.
-fn begins(slots: &[u64], due: &[u64]) -> bool {
-    let n = due.len() as u64;
-    same(first(slots, n), due) && at(past(slots, n), 0) == 7
+// Whether the slots begin with these n numbers, and still hold 7 behind them.
+fn begins(slots: &[u64], n: u64, due: &[u64]) -> bool {
+    due.len() as u64 == n && has(slots, 0, due) && kept(&[7; 32], slots, 0, n)
 }
