@@ -49,10 +49,10 @@ pub fn compare(random: &mut Random) -> Result<usize, String> {
     Ok(cases)
 }
 
-/// Lines `align_up value align: some value`.
-pub fn sample(random: &mut Random) {
-    println!(
-        "-- What align.rs answers to value and align: whether there is a place (one or zero), and the place. Made by compare/sample."
+/// Lines `align_up 1: value align = some place`.
+pub fn sample(random: &mut Random) -> String {
+    let mut text = String::from(
+        "-- align.rs: value, align = whether there is a place (one or zero), the place.\n",
     );
     let mut inputs = vec![
         (4097, 4096),
@@ -74,12 +74,13 @@ pub fn sample(random: &mut Random) {
     }
     for (value, align) in inputs {
         let r = oracle::align::align_up(value, align);
-        println!(
-            "align_up {value} {align}: {} {}",
+        text += &format!(
+            "align_up 1: {value} {align} = {} {}\n",
             u64::from(r.is_some()),
             r.unwrap_or(0)
         );
     }
+    text
 }
 
 pub fn bench(random: &mut Random) {

@@ -8,7 +8,6 @@ mod smaller;
 use crate::flat::{flat, pairs, words};
 use crate::lent::Lent;
 use crate::random::Random;
-use crate::stored;
 use crate::table::{median, row};
 use oracle::footprint::{Footprint, check_region};
 use oracle::header::{header_bytes, header_view, kind};
@@ -267,11 +266,9 @@ pub fn compare(random: &mut Random) -> Result<usize, String> {
 }
 
 /// Lines `check` and `runs`.
-pub fn sample(random: &mut Random) {
+pub fn sample(random: &mut Random) -> String {
     let mut text = String::from(
-        "-- What footprint.rs answers. Made by compare/sample.
--- check one: limits, region, entry, header, extents, places of scratch = refusal, extra, part: scratch afterwards.
--- runs two: extents = how many runs: their starts, their files, their lengths.
+        "-- footprint.rs: limits, region, entry, header, extents, places of scratch = refusal, extra, length of the part: scratch afterwards.
 ",
     );
     // how many regions of each refusal, and how many with an extra extent
@@ -300,8 +297,7 @@ pub fn sample(random: &mut Random) {
         large -= usize::from(large > 0);
         text += &line(&case, &answer);
     }
-    text += &runs::sample(random);
-    stored::print(&text);
+    text + &runs::sample(random)
 }
 
 fn line(case: &Case, answer: &Answer) -> String {
@@ -328,7 +324,7 @@ fn line(case: &Case, answer: &Answer) -> String {
         r.header_extent_count.into(),
     ];
     format!(
-        "check 1:{}, {},{},{}, {}:{}, {} = {}{} {}:{}\n",
+        "check 3:{}, {},{},{}, {}:{}, {} = {}{} {}:{}\n",
         words(&limits),
         r.region_id,
         words(&entry),

@@ -1,14 +1,32 @@
-//! Stored samples.
+//! The stored sample, which a program of the gate replays.
 
-/// Prints a sample that a program of the gate can read: below 12,000 numbers, at most 65,536 bytes.
-pub fn print(text: &str) {
-    let numbers = text
-        .split(|c: char| !c.is_ascii_digit())
+/// The program's room.
+const NUMBERS: usize = 80_000;
+const BYTES: usize = 500_000;
+
+fn numbers(text: &str) -> usize {
+    text.split(|c: char| !c.is_ascii_digit())
         .filter(|n| !n.is_empty())
-        .count();
+        .count()
+}
+
+/// A line of the sample: a case behind how many numbers it has, or a comment, which has none.
+fn line(line: &str) -> String {
+    let n = numbers(line);
+    if line.starts_with("--") {
+        assert!(n == 0, "a number in {line}");
+        return format!("{line}\n");
+    }
+    format!("{n}: {line}\n")
+}
+
+/// Prints a sample of these lines, less than the program has room for.
+pub fn print(lines: &str) {
+    let text: String = lines.lines().map(line).collect();
+    let n = numbers(&text);
     assert!(
-        numbers < 12_000 && text.len() <= 65_536,
-        "{numbers} numbers in {} bytes",
+        n < NUMBERS && text.len() < BYTES,
+        "{n} numbers in {} bytes",
         text.len()
     );
     print!("{text}");

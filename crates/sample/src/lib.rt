@@ -1,6 +1,8 @@
 // The numbers of a text, for the programs that replay stored answers of the Rust.
+mod tally;
 pub mod words;
 
+pub use tally::Tally;
 ghost use mathlib.Core.Bool.{true};
 ghost use mathlib.Core.Path.{_≡_};
 ghost use Prim.Native.Nat.{_-_, _≤_};

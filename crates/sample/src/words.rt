@@ -64,6 +64,31 @@ pub fn past_list(w: &[u64]) -> &[u64]
     past(past(w, 1), at(w, 0))
 }
 
+// What follows n lists, the first of which begins at a place.
+pub fn past_lists(w: &[u64], from: u64, n: usize) -> &[u64] {
+    let lists = past(w, from);
+    let mut i = 0;
+    let mut k = 0;
+    while k < n {
+        i = lists.len() - past_list(&lists[i..]).len();
+        k += 1;
+    }
+    &lists[i..]
+}
+
+// List k of them, counted from 0.
+pub fn nth_list(w: &[u64], from: u64, k: usize) -> &[u64] {
+    list(past_lists(w, from, k))
+}
+
+// Whether list k of them is whole, and has at most so many numbers, each at most top.
+pub fn whole(w: &[u64], from: u64, k: usize, most: u64, top: u64) -> bool {
+    let lists = past_lists(w, from, k);
+    let numbers = list(lists);
+    let n = numbers.len() as u64;
+    lists.len() > 0 && n == at(lists, 0) && n <= most && up_to(numbers, top)
+}
+
 // Whether two lists are the same.
 pub fn same(a: &[u64], b: &[u64]) -> bool
     ensures { λ r. ⌜ Same (now (a .entry)) (now (b .entry)) r ⌝ }
@@ -74,6 +99,68 @@ pub fn same(a: &[u64], b: &[u64]) -> bool
     let mut i = 0;
     while i < a.len() {
         if a[i] != b[i] {
+            return false;
+        }
+        i += 1;
+    }
+    true
+}
+
+// Whether w has these numbers from a place on.
+pub fn has(w: &[u64], from: u64, numbers: &[u64]) -> bool {
+    same(first(past(w, from), numbers.len() as u64), numbers)
+}
+
+// Whether w has these numbers from a place on, and nothing behind them.
+pub fn ends(w: &[u64], from: u64, numbers: &[u64]) -> bool {
+    same(past(w, from), numbers)
+}
+
+// Whether all slots are the same but those from `from` to `to`.
+pub fn kept(before: &[u64], after: &[u64], from: u64, to: u64) -> bool {
+    has(after, 0, first(before, from)) && ends(after, to, past(before, to))
+}
+
+// Whether each number is at most top.
+fn up_to(numbers: &[u64], top: u64) -> bool {
+    let mut i = 0;
+    while i < numbers.len() {
+        if numbers[i] > top {
+            return false;
+        }
+        i += 1;
+    }
+    true
+}
+
+// Copies the numbers, as many as there is room for, and hands back the copies.
+pub fn copied<'a>(numbers: &[u64], room: &'a mut [u64]) -> &'a mut [u64] {
+    let mut i = 0;
+    while i < numbers.len() && i < room.len() {
+        room[i] = numbers[i];
+        i += 1;
+    }
+    &mut room[0..i]
+}
+
+// The same as bytes, each number modulo 256.
+pub fn bytes_in<'a>(numbers: &[u64], room: &'a mut [u8]) -> &'a mut [u8] {
+    let mut i = 0;
+    while i < numbers.len() && i < room.len() {
+        room[i] = (numbers[i] % 256) as u8;
+        i += 1;
+    }
+    &mut room[0..i]
+}
+
+// Whether the bytes are the numbers.
+pub fn same_bytes(bytes: &[u8], numbers: &[u64]) -> bool {
+    if bytes.len() != numbers.len() {
+        return false;
+    }
+    let mut i = 0;
+    while i < bytes.len() {
+        if bytes[i] as u64 != numbers[i] {
             return false;
         }
         i += 1;

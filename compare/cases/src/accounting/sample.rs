@@ -8,16 +8,15 @@ use super::sequence::{
 };
 use super::sides::{Probe, Sides};
 use super::{FITS as WAYS, REFUSALS, STOPS, Tally};
-use crate::flat::list;
+use crate::flat::{list, words};
 use crate::random::Random;
-use crate::stored;
 use oracle::accounts::entry;
 use ours::accounts::{MOST, Row};
 use std::convert::Infallible;
 
 const MAX: u64 = u64::MAX;
 
-/// How many places the program's lists have.
+/// How many tags, and how many numbers of the third list, the program has room for.
 const PLACES: usize = 128;
 
 fn numbers(row: &Row) -> [u64; 6] {
@@ -31,21 +30,20 @@ fn numbers(row: &Row) -> [u64; 6] {
     ]
 }
 
-/// The numbers of three lists as long as the first, one entry after another. Where another list is
-/// shorter the program lends less of it, where it is longer it has a 0.
-fn triples(tags: &[u32], second: &[u64], third: &[u64]) -> Vec<u64> {
-    let at = |list: &[u64], i: usize| list.get(i).copied().unwrap_or(0);
-    assert!(tags.len().max(second.len()).max(third.len()) <= PLACES);
-    (0..tags.len())
-        .flat_map(|i| [tags[i].into(), at(second, i), at(third, i)])
-        .collect()
+/// A call as the sample has it: its word, its number, its four arguments, and its lists.
+type Asked = (&'static str, [u64; 5], String);
+
+fn lists_of<T: Copy + Into<u64>>(tags: &[u32], second: &[u64], third: &[T]) -> String {
+    assert!(tags.len().max(third.len()) <= PLACES);
+    let tags: Vec<u64> = tags.iter().map(|&t| t.into()).collect();
+    let third: Vec<u64> = third.iter().map(|&n| n.into()).collect();
+    format!("{}, {}, {}", list(&tags), list(second), list(&third))
 }
 
-/// The call's word, its number, its four arguments and its list.
-fn asked(call: &Call) -> (&'static str, [u64; 5], Vec<u64>) {
+fn asked(call: &Call) -> Asked {
     let word = CALLS[call.kind()];
     let code = 1 + call.kind() as u64;
-    let with = |tag: u32, a: u64, b: u64| (word, [code, tag.into(), a, b, 0], Vec::new());
+    let with = |tag: u32, a: u64, b: u64| (word, [code, tag.into(), a, b, 0], lists_of::<u64>(&[], &[], &[]));
     match *call {
         Call::Empty => with(0, 0, 0),
         Call::FromUsage {
@@ -53,9 +51,8 @@ fn asked(call: &Call) -> (&'static str, [u64; 5], Vec<u64>) {
             ref logical,
             ref physical,
         } => {
-            let lens = [logical.len() as u64, physical.len() as u64];
-            let list = triples(tags, logical, physical);
-            (word, [code, 0, lens[0], lens[1], 0], list)
+            let lists = lists_of(tags, logical, physical);
+            (word, [code, 0, 0, 0, 0], lists)
         }
         Call::FromEntries {
             ref states,
@@ -63,10 +60,8 @@ fn asked(call: &Call) -> (&'static str, [u64; 5], Vec<u64>) {
             ref data_sizes,
             block,
         } => {
-            let lens = [data_sizes.len() as u64, states.len() as u64];
-            let states: Vec<u64> = states.iter().map(|&s| s.into()).collect();
-            let list = triples(tags, data_sizes, &states);
-            (word, [code, 0, lens[0], lens[1], block], list)
+            let lists = lists_of(tags, data_sizes, states);
+            (word, [code, 0, 0, 0, block], lists)
         }
         Call::AddUsage {
             tag,
@@ -102,10 +97,10 @@ struct Text<'a> {
 }
 
 impl Text<'_> {
-    /// A line: the call's number and four arguments, its list; the refusal, whether it is so, a value;
+    /// A line: the call's number and four arguments, its lists; the refusal, whether it is so, a value;
     /// how many rows there then are, the bytes reserved, the row of the call's tag, all rows or none.
-    fn line(&mut self, call: (&str, [u64; 5], Vec<u64>), answer: [u64; 3], rows: &[Row]) {
-        let (word, [code, tag, a, b, c], given) = call;
+    fn line(&mut self, call: Asked, answer: [u64; 3], rows: &[Row]) {
+        let (word, [code, tag, a, b, c], lists) = call;
         let due = self.sides.due;
         let known = due.rows[..due.count]
             .iter()
@@ -117,11 +112,10 @@ impl Text<'_> {
         let [refusal, yes, value] = answer;
         let [t, capped, logical, physical, reserved, cap] = numbers(&row);
         self.text += &format!(
-            "{word} {code}: {tag} {a} {b} {c}, {} = {refusal} {yes} {value}, {} {}, {t} {capped} {logical} {physical} {reserved} {cap}, {}\n",
-            list(&given),
+            "{word} 8.{code}: {tag} {a} {b} {c}, {lists} = {refusal} {yes} {value}, {} {}, {t} {capped} {logical} {physical} {reserved} {cap},{}\n",
             due.count,
             due.reserved,
-            list(&rows.iter().flat_map(numbers).collect::<Vec<_>>()),
+            words(&rows.iter().flat_map(numbers).collect::<Vec<_>>()),
         );
     }
 
@@ -156,7 +150,7 @@ impl Text<'_> {
     fn rows(&mut self) {
         let due = self.sides.due;
         self.line(
-            ("rows", [12, 0, 0, 0, 0], Vec::new()),
+            ("rows", [12, 0, 0, 0, 0], lists_of::<u64>(&[], &[], &[])),
             [0; 3],
             &due.rows[..due.count],
         );
@@ -166,7 +160,7 @@ impl Text<'_> {
     fn extent(&mut self, size: u64, block: u64) {
         let len = entry(true, 0, size).extent_len(block);
         let answer = [0, len.is_some().into(), len.unwrap_or(0)];
-        self.line(("extent", [13, 0, size, block, 0], Vec::new()), answer, &[]);
+        self.line(("extent", [13, 0, size, block, 0], lists_of::<u64>(&[], &[], &[])), answer, &[]);
     }
 }
 
@@ -281,12 +275,11 @@ fn drawn(i: usize, random: &mut Random) -> Sequence {
 }
 
 /// A line for each call; `rows` and `extent`.
-pub fn sample(random: &mut Random) {
+pub fn sample(random: &mut Random) -> String {
     let mut tally = Tally::default();
     let mut told = Text {
         text: String::from(
-            "-- What space.rs answers to calls on one record of accounts, one after another. Made by compare/sample.
--- call: four arguments, a list = refusal, whether so, value; rows, reserved; the tag's row; all rows.
+            "-- space.rs, calls on one record of accounts: call, tag, three arguments, lists (tags and two more) = refusal, whether so, value; rows, reserved; the tag's row; all rows.
 ",
         ),
         sides: Sides::new(),
@@ -326,5 +319,5 @@ pub fn sample(random: &mut Random) {
         let n: usize = tally.refusals.iter().map(|r| r[k]).sum();
         assert!(n > 2, "{refusal} is given {n} times");
     }
-    stored::print(&text);
+    text
 }

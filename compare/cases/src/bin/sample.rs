@@ -1,18 +1,25 @@
-//! Prints the stored sample of the Rust's answers for the module that the argument names.
+//! Prints the stored sample of the Rust's answers, one module after another.
 
 use cases::random::{Random, SEED};
-use cases::{accounting, align, footprint, freemap, regionmap, settle, sort};
+use cases::{accounting, align, footprint, freemap, regionmap, settle, sort, stored};
+
+const HEAD: &str = "-- What the Rust answers, a case a line. Made by compare/sample.
+-- How many numbers the case has: its module's number; what is asked = what is answered. A list is its length and its numbers, and one at the end its numbers.
+";
 
 fn main() {
-    let mut random = Random::new(SEED);
-    match std::env::args().nth(1).as_deref() {
-        Some("align") => align::sample(&mut random),
-        Some("sort") => sort::sample(&mut random),
-        Some("footprint") => footprint::sample(&mut random),
-        Some("regionmap") => regionmap::sample(&mut random),
-        Some("settle") => settle::sample(&mut random),
-        Some("freemap") => freemap::sample(&mut random),
-        Some("accounting") => accounting::sample(&mut random),
-        other => panic!("no module {other:?}"),
+    let modules: [fn(&mut Random) -> String; 7] = [
+        align::sample,
+        sort::sample,
+        footprint::sample,
+        regionmap::sample,
+        settle::sample,
+        freemap::sample,
+        accounting::sample,
+    ];
+    let mut text = String::from(HEAD);
+    for sample in modules {
+        text += &sample(&mut Random::new(SEED));
     }
+    stored::print(&text);
 }

@@ -151,7 +151,9 @@ pub fn compare(random: &mut Random) -> Result<usize, String> {
 }
 
 pub fn sample(random: &mut Random) -> String {
-    let mut text = String::new();
+    let mut text = String::from(
+        "-- footprint.rs: extents = how many runs: their starts, their files, their lengths.\n",
+    );
     for i in 0..80 {
         let n = i % 21;
         let s = if i % 4 == 0 {
@@ -162,7 +164,7 @@ pub fn sample(random: &mut Random) -> String {
         };
         let (_, n, lists) = due(&s, [s.len() / 2; 3]);
         let runs = lists.map(|l| words(&l[..n as usize])).join(",");
-        text += &format!("runs 2: {}:{} = {n}:{runs}\n", s.len(), words(&s));
+        text += &format!("runs 4: {}:{} = {n}:{runs}\n", s.len(), words(&s));
     }
     text
 }

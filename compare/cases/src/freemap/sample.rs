@@ -4,9 +4,8 @@ use super::case::{Case, Question, plain};
 use super::draw::{self, Space};
 use super::sides::Read;
 use super::{Tally, answers};
-use crate::flat::list;
+use crate::flat::{list, words};
 use crate::random::Random;
-use crate::stored;
 use ours::free::Map;
 
 /// How many slots the program's list of gaps has.
@@ -17,7 +16,7 @@ fn fit(q: &Question, read: &Read, slots: usize) -> String {
     let (refusal, place) = read.fit;
     let (some, at) = (u64::from(place.is_some()), place.unwrap_or(0));
     format!(
-        "fit 2: {} {} {}, {slots}, 0: = {refusal} {some} {at}, 0:, 0:\n",
+        "fit 7.2: {} {} {}, {slots}, 0: = {refusal} {some} {at}\n",
         q.len, q.align, q.skew,
     )
 }
@@ -25,7 +24,7 @@ fn fit(q: &Question, read: &Read, slots: usize) -> String {
 /// `bytes`, the slots lent; the refusal and the free bytes.
 fn bytes(read: &Read, slots: usize) -> String {
     let (refusal, bytes) = read.bytes;
-    format!("bytes 3: 0 0 0, {slots}, 0: = {refusal} {bytes} 0, 0:, 0:\n")
+    format!("bytes 7.3: 0 0 0, {slots}, 0: = {refusal} {bytes} 0\n")
 }
 
 /// The lines of a case: `complement`, table end and length, the slots lent for gaps, the list of
@@ -41,7 +40,7 @@ fn told(case: &Case, map: &mut Map, tally: &mut Tally) -> String {
         written = 2 * map.count;
     }
     let mut text = format!(
-        "complement 1: {} {} 0, {}, {} = {} {} {}, {}, {}\n",
+        "complement 7.1: {} {} 0, {}, {} = {} {} {},{},{}\n",
         lists.table_end,
         lists.len,
         lists.gaps.len(),
@@ -49,8 +48,8 @@ fn told(case: &Case, map: &mut Map, tally: &mut Tally) -> String {
         due.refusal,
         map.count,
         map.tail,
-        list(&due.ranges),
-        list(&due.gaps[..written]),
+        words(&due.ranges),
+        words(&due.gaps[..written]),
     );
     let mut told = None;
     for (q, read) in lists.questions.iter().zip(&due.reads) {
@@ -112,10 +111,9 @@ fn chosen() -> Vec<Case> {
 }
 
 /// Lines `complement`, `fit` and `bytes`.
-pub fn sample(random: &mut Random) {
+pub fn sample(random: &mut Random) -> String {
     let mut text = String::from(
-        "-- What footprint.rs of the engine answers to FreeMap's calls, one after another. Made by compare/sample.
--- call: three arguments, slots lent for gaps, a list = three numbers, the list after, the gaps written.
+        "-- footprint.rs of the engine, calls on one FreeMap: call, three arguments, slots lent for gaps, ranges = three numbers, the ranges after, the gaps written.
 ",
     );
     let mut tally = Tally::default();
@@ -138,5 +136,5 @@ pub fn sample(random: &mut Random) {
         &tally.bytes,
     ];
     assert!(counts.concat().iter().all(|&n| n > 2), "{counts:?}");
-    stored::print(&text);
+    text
 }

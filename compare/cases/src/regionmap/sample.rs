@@ -8,7 +8,6 @@ use super::sides::{Answer, Call, Sides};
 use super::{CALLS, Tally};
 use crate::flat::words;
 use crate::random::Random;
-use crate::stored;
 use std::convert::Infallible;
 
 /// How many places the lists have, and what fills them.
@@ -35,7 +34,7 @@ fn line(call: &Call, places: usize, answer: &Answer, sides: &Sides) -> String {
         k => (sides.due_lists[0][k - 1], sides.due_lists[1][k - 1]),
     };
     format!(
-        "{word} {code}: {a} {b}, {places}, {}:{} = {} {}, {} {} {} {} {}, {start} {file}\n",
+        "{word} 5.{code}: {a} {b}, {places}, {}:{} = {} {}, {} {} {} {} {}, {start} {file}\n",
         list.len(),
         words(list),
         answer.refusal,
@@ -122,10 +121,9 @@ fn drawn(i: usize, n: usize, size: Size, random: &mut Random) -> Sequence {
 }
 
 /// Lines `make`, `room`, `publish`, `extend`, `locate` and `runs`.
-pub fn sample(random: &mut Random) {
+pub fn sample(random: &mut Random) -> String {
     let mut text = String::from(
-        "-- What regionmap.rs answers to calls on one map, one after another. Made by compare/sample.
--- call: two arguments, places of the lists, a list = refusal, value, the five numbers, the last run's start and file.
+        "-- regionmap.rs, calls on one map: call, two arguments, places of the lists, a list = refusal, value, the five numbers, the last run's start and file.
 ",
     );
     let mut tally = Tally::default();
@@ -155,5 +153,5 @@ pub fn sample(random: &mut Random) {
             assert!(counts[k] > 2, "{name} has {k} {} times", counts[k]);
         }
     }
-    stored::print(&text);
+    text
 }

@@ -7,21 +7,22 @@ use super::case::{
 use super::draw;
 use super::sides::{Answer, SUPERSEDED, due};
 use super::{MARKED, Tally};
-use crate::flat::list;
+use crate::flat::{list, words};
 use crate::random::Random;
 use crate::shrink::distance;
-use crate::stored;
 
-fn of_bytes(bytes: &[u8]) -> String {
-    list(&bytes.iter().map(|&b| b.into()).collect::<Vec<u64>>())
+fn numbers(bytes: &[u8]) -> Vec<u64> {
+    bytes.iter().map(|&b| b.into()).collect()
 }
 
-/// A count of records and their five lists: sequence numbers, counts, ranges, lengths of names,
-/// names.
+fn of_bytes(bytes: &[u8]) -> String {
+    list(&numbers(bytes))
+}
+
+/// The five lists of a kind of records: sequence numbers, counts, ranges, lengths of names, names.
 fn kind(word: &str, kind: &Kind) -> String {
     format!(
-        "{word} {}; {}, {}, {}, {}, {}; ",
-        kind.count,
+        "{word} {}, {}, {}, {}, {}; ",
         list(&kind.seqs),
         list(&kind.counts),
         list(&kind.ranges),
@@ -30,18 +31,20 @@ fn kind(word: &str, kind: &Kind) -> String {
     )
 }
 
-/// A line: the usable records and the unavailable ones, each a count and five lists (sequence
-/// numbers, counts, ranges, lengths of names, names); the length of scratch, the list of marks
-/// before; the refusal, the list of marks after. A list is its length and its numbers.
+/// A line: how many usable records and how many unavailable ones, the length of scratch; five lists of
+/// each (sequence numbers, counts, ranges, lengths of names, names), the list of marks before; the
+/// refusal, the marks after. A list is its length and its numbers.
 fn line(lists: &Lists, due: &Answer) -> String {
     format!(
-        "{}{}scratch {}, marks {} = {} {}\n",
+        "settle 6: {} {} {}; {}{}marks {} = {}{}\n",
+        lists.usable.count,
+        lists.unavailable.count,
+        lists.scratch.len(),
         kind("usable", &lists.usable),
         kind("unavailable", &lists.unavailable),
-        lists.scratch.len(),
         of_bytes(&lists.marks),
         due.refusal,
-        of_bytes(&due.marks),
+        words(&numbers(&due.marks)),
     )
 }
 
@@ -133,10 +136,9 @@ fn drawn(
 }
 
 /// Lines `usable .. unavailable .. scratch .. marks .. = ..`, each as `line` says.
-pub fn sample(random: &mut Random) {
+pub fn sample(random: &mut Random) -> String {
     let mut text = String::from(
-        "-- What footprint.rs of the engine answers to settle. Made by compare/sample.
--- usable and unavailable: a count and five lists (numbers, counts, ranges, lengths of names, names); scratch's length, marks before = refusal, marks after.
+        "-- footprint.rs of the engine: how many usable records, how many unavailable ones, the length of scratch; five lists of each (numbers, counts, ranges, lengths of names, names), marks before = refusal, marks after.
 ",
     );
     let mut tally = Tally::default();
@@ -159,7 +161,7 @@ pub fn sample(random: &mut Random) {
         // a short line; and every other one with a superseded record, where there can be one
         let wanted = |lists: &Lists, due: &Answer| {
             let superseded = due.marks.iter().any(|m| m & SUPERSEDED != 0);
-            line(lists, due).len() < 110 + 85 * (usable + unavailable)
+            line(lists, due).len() < 107 + 85 * (usable + unavailable)
                 && (superseded || unavailable == 0 || i % 2 == 1)
         };
         tell(&drawn(usable, unavailable, n, wanted, random));
@@ -176,5 +178,5 @@ pub fn sample(random: &mut Random) {
         assert!(counts.iter().all(|&n| n > 25), "{marked:?}: {counts:?}");
     }
     assert!(text.len() <= 40 << 10, "{} bytes", text.len());
-    stored::print(&text);
+    text
 }
