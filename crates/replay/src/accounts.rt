@@ -157,8 +157,8 @@ pub(crate) fn alike(call: &[u64], answer: Answer) -> bool {
         && rows_alike(at(call, 0) == 12, accounts, due)
 }
 
-// Whether a call is one of the thirteen, its tags are tags, its states are bytes, and there is room for
-// both.
+// Whether a call is one of the thirteen, its tags are tags, its states are bytes, there is room for
+// both, and a cap is one or none.
 fn known(call: &[u64]) -> bool {
     let code = at(call, 0);
     code > 0
@@ -166,6 +166,7 @@ fn known(call: &[u64]) -> bool {
         && at(call, 1) < 0x1_0000_0000
         && whole(call, 5, 0, 128, 0xffff_ffff)
         && (code != 3 || whole(call, 5, 2, 128, 255))
+        && (code != 11 || at(call, 2) <= 1)
 }
 
 // The refusal, whether it is so, the value, how many rows there are and the bytes reserved.

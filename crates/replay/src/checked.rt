@@ -67,12 +67,28 @@ fn header_of(call: &[u64]) -> Header {
     }
 }
 
+// Whether kinds are kinds, and what is to be a byte, a bool or a short is one.
+fn known(call: &[u64]) -> bool {
+    at(call, 0) <= 255
+        && at(call, 4) > 0
+        && at(call, 4) <= 3
+        && at(call, 5) <= 255
+        && at(call, 6) <= 65535
+        && at(call, 15) > 0
+        && at(call, 15) <= 3
+        && at(call, 16) <= 255
+        && at(call, 17) <= 1
+        && at(call, 18) <= 255
+        && at(call, 19) <= 65535
+}
+
 pub(crate) fn alike(call: &[u64]) -> bool {
     let due = past_lists(call, 20, 1);
     let places = at(due, 0);
     let mut scratch = [7u64; 128];
     let mut again = [7u64; 128];
-    past(due, 5).len() as u64 == places
+    known(call)
+        && past(due, 5).len() as u64 == places
         && handed_alike(call, due, front(&mut scratch, places))
         && filled_alike(call, due, front(&mut again, places))
 }

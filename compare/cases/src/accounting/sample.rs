@@ -40,10 +40,14 @@ fn lists_of<T: Copy + Into<u64>>(tags: &[u32], second: &[u64], third: &[T]) -> S
     format!("{}, {}, {}", list(&tags), list(second), list(&third))
 }
 
+fn no_lists() -> String {
+    lists_of::<u64>(&[], &[], &[])
+}
+
 fn asked(call: &Call) -> Asked {
     let word = CALLS[call.kind()];
     let code = 1 + call.kind() as u64;
-    let with = |tag: u32, a: u64, b: u64| (word, [code, tag.into(), a, b, 0], lists_of::<u64>(&[], &[], &[]));
+    let with = |tag: u32, a: u64, b: u64| (word, [code, tag.into(), a, b, 0], no_lists());
     match *call {
         Call::Empty => with(0, 0, 0),
         Call::FromUsage {
@@ -150,7 +154,7 @@ impl Text<'_> {
     fn rows(&mut self) {
         let due = self.sides.due;
         self.line(
-            ("rows", [12, 0, 0, 0, 0], lists_of::<u64>(&[], &[], &[])),
+            ("rows", [12, 0, 0, 0, 0], no_lists()),
             [0; 3],
             &due.rows[..due.count],
         );
@@ -160,7 +164,7 @@ impl Text<'_> {
     fn extent(&mut self, size: u64, block: u64) {
         let len = entry(true, 0, size).extent_len(block);
         let answer = [0, len.is_some().into(), len.unwrap_or(0)];
-        self.line(("extent", [13, 0, size, block, 0], lists_of::<u64>(&[], &[], &[])), answer, &[]);
+        self.line(("extent", [13, 0, size, block, 0], no_lists()), answer, &[]);
     }
 }
 
