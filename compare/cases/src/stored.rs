@@ -1,8 +1,8 @@
-//! The stored sample, which a program of the gate replays.
+//! The stored samples, which programs of the gate replay.
 
-/// The program's room.
-const NUMBERS: usize = 80_000;
-const BYTES: usize = 500_000;
+/// A program's room.
+const NUMBERS: usize = 40_000;
+const BYTES: usize = 250_000;
 
 fn numbers(text: &str) -> usize {
     text.split(|c: char| !c.is_ascii_digit())

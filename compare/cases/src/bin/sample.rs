@@ -1,4 +1,5 @@
-//! Prints the stored sample of the Rust's answers, one module after another.
+//! Prints a stored sample of the Rust's answers, one module after another: that of the program replay, or with the argument
+//! 'calls' that of replay_calls.
 
 use cases::random::{Random, SEED};
 use cases::{accounting, align, footprint, freemap, regionmap, settle, sort, stored};
@@ -7,16 +8,20 @@ const HEAD: &str = "-- What the Rust answers, a case a line. Made by compare/sam
 -- How many numbers the case has: its module's number; what is asked = what is answered. A list is its length and its numbers, and one at the end its numbers.
 ";
 
+type Sample = fn(&mut Random) -> String;
+
 fn main() {
-    let modules: [fn(&mut Random) -> String; 7] = [
+    let single: [Sample; 4] = [
         align::sample,
         sort::sample,
         footprint::sample,
-        regionmap::sample,
         settle::sample,
-        freemap::sample,
-        accounting::sample,
     ];
+    let calls: [Sample; 3] = [regionmap::sample, freemap::sample, accounting::sample];
+    let modules = match std::env::args().nth(1).as_deref() {
+        Some("calls") => &calls[..],
+        _ => &single[..],
+    };
     let mut text = String::from(HEAD);
     for sample in modules {
         text += &sample(&mut Random::new(SEED));

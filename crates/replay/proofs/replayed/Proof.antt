@@ -7,10 +7,10 @@ use Rattle.replay.proofs.replayed.Statement.{statement}
 use Rattle.replay.proofs.replayed.Tie as tie
 
 abbrev Inv-loop : tie.InvT-loop
-Inv-loop words state₀ i₀ state i = i ≤ length words
+Inv-loop words tally₀ i₀ tally i = i ≤ length words
 
 abbrev μ-loop : tie.MeasureT-loop
-μ-loop words state₀ i₀ state i = length words - i
+μ-loop words tally₀ i₀ tally i = length words - i
 
 new-requires : tie.Need-new-requires Inv-loop μ-loop
 new-requires c κs = search needs
@@ -30,8 +30,8 @@ part-rest-start c = omega arith
 part-rest-end : tie.Need-part-rest-end Inv-loop μ-loop
 part-rest-end c = omega arith
 
-replay-requires : tie.Need-replay-requires Inv-loop μ-loop
-replay-requires c κs = search needs
+counted-requires : tie.Need-counted-requires Inv-loop μ-loop
+counted-requires c κs = search needs
 
 past-list-requires : tie.Need-past-list-requires Inv-loop μ-loop
 past-list-requires c κs = search needs
@@ -60,7 +60,7 @@ replayed-spec =
     sub-rest
     part-rest-start
     part-rest-end
-    replay-requires
+    counted-requires
     past-list-requires
     sub-i
     loop-less

@@ -1,10 +1,10 @@
--- `replay::accounts::each_alike` is safe and ends.
+-- `replay_calls::accounts::each_alike` is safe and ends.
 use Prim.Native.Nat.{_-_, _≤_}
 use native.Mathlib.Omega.{arith}
 use borrow.Author.Needs.{needs}
 use borrow.Author.Tests.{ltb-true}
-use Rattle.replay.proofs.accounts.each_alike.Statement.{statement}
-use Rattle.replay.proofs.accounts.each_alike.Tie as tie
+use Rattle.replay_calls.proofs.accounts.each_alike.Statement.{statement}
+use Rattle.replay_calls.proofs.accounts.each_alike.Tie as tie
 
 abbrev Inv-loop : tie.InvT-loop
 Inv-loop accounts due i₀ i = i ≤ 98

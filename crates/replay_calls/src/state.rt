@@ -1,14 +1,9 @@
 // What goes from case to case, and which module replays a case.
 use crate::accounts;
-use crate::aligned;
-use crate::checked;
 use crate::free;
 use crate::free::FreeState;
 use crate::region;
 use crate::region::RegionState;
-use crate::runs;
-use crate::settled;
-use crate::sorted;
 use accounting::Accounting;
 use sample::Tally;
 use sample::words::at;
@@ -37,26 +32,33 @@ impl State {
     }
 }
 
-// The state after the case that w begins with: its length, and so many numbers.
+// The state after the case that w begins with: its length, and so many numbers, its module's and what
+// that module's file says.
 pub(crate) fn replay(state: State, w: &[u64]) -> State {
     let case = list(w);
-    let mut after = answered(state, case);
+    let module = at(case, 0);
+    let mut after = answered(state, module, past(case, 1));
     let whole = case.len() as u64 == at(w, 0);
     let tally = after.tally;
-    after.tally = tally.counted(at(case, 0), after.alike && whole);
+    after.tally = tally.counted(known(module), after.alike && whole);
     after
 }
 
-// A case is its module's number, and what that module's file says.
-fn answered(mut state: State, case: &[u64]) -> State {
-    let module = at(case, 0);
-    let call = past(case, 1);
+// The module's number, 0 where this program has no such module.
+fn known(module: u64) -> u64 {
+    match module {
+        5 | 7 | 8 => module,
+        _ => 0,
+    }
+}
+
+fn answered(mut state: State, module: u64, call: &[u64]) -> State {
     match module {
         5 => on_region(state, call),
         7 => on_free(state, call),
         8 => on_accounts(state, call),
         _ => {
-            state.alike = alike(module, call);
+            state.alike = false;
             state
         }
     }
@@ -82,16 +84,4 @@ fn on_accounts(mut state: State, call: &[u64]) -> State {
     state.accounts = after;
     state.alike = accounts::alike(call, answer);
     state
-}
-
-// Whether a call that leaves the state as it is is answered alike.
-fn alike(module: u64, call: &[u64]) -> bool {
-    match module {
-        1 => aligned::alike(call),
-        2 => sorted::alike(call),
-        3 => checked::alike(call),
-        4 => runs::alike(call),
-        6 => settled::alike(call),
-        _ => false,
-    }
 }

@@ -1,12 +1,12 @@
--- `replay::accounts::tags_in` is safe and ends.
+-- `replay_calls::accounts::tags_in` is safe and ends.
 use Prim.Native.Nat.{_-_, _≤_}
 use mathlib.Core.Path.{_≡_}
 use native.Mathlib.Omega.{arith}
 use lib.ListN.{length, length-set}
 use borrow.Author.Needs.{needs}
 use borrow.Author.Tests.{ltb-true}
-use Rattle.replay.proofs.accounts.tags_in.Statement.{statement}
-use Rattle.replay.proofs.accounts.tags_in.Tie as tie
+use Rattle.replay_calls.proofs.accounts.tags_in.Statement.{statement}
+use Rattle.replay_calls.proofs.accounts.tags_in.Tie as tie
 
 abbrev Inv-loop : tie.InvT-loop
 Inv-loop numbers tags₀ i₀ tags i = (length tags ≡ length tags₀) × (i ≤ length tags)
