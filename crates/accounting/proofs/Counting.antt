@@ -1,11 +1,11 @@
 -- Usages counted one after another.
-use Prim.Native.Nat.{ℕ, suc, _+_, _≤_, _<_}
+use Prim.Native.Nat.{ℕ, _+_, _≤_, _<_}
 use mathlib.Core.Bool.{Bool, true, false, or-true}
 use mathlib.Core.List.{List, [], _∷_}
 use mathlib.Core.Path.{_≡_, refl, ap, sym, subst, _∙_}
 use native.Mathlib.Omega.{arith}
 use lib.ListN.{length, getD, set, drop, drop-of-length-le}
-use lib.Seq.{drop-cons, drop-drop, getD-drop}
+use lib.Seq.{drop-drop}
 use borrow.Author.Tests.{eq-eqb, ne-eqb}
 use Rattle.accounting.specs.Entries.{Usage, Counts, usage, usages, readyUsages, addedLen, addAll, noTags, differ}
 use Rattle.accounting.specs.Inner.{Sought, inserted}
@@ -19,6 +19,7 @@ use Rattle.accounting.proofs.Handing.{handed-fit, handed-full, posts-kn
 use Rattle.accounting.proofs.Rows.{put-more}
 use Rattle.accounting.proofs.Tables.{table-accounts, accounts-valid, count-rows}
 use Rattle.numbers.proofs.Cases.{by-lt}
+use Rattle.numbers.proofs.Lists.{from-here, at-front}
 
 -- ---- the rows grow no fewer
 
@@ -111,16 +112,10 @@ module _ {all rest : List Usage} {a : Accounting} (g : Counting all rest a) wher
 
 -- ---- the lists from i on
 
-pub at-front : (l : List ℕ) (i : ℕ) → getD (drop i l) 0 0 ≡ getD l i 0
-at-front l i = let e : i + 0 ≡ i = omega arith in getD-drop i l 0 0 ∙ ap (λ (j : ℕ). getD l j 0) e
-
-pub from-here : (l : List ℕ) (i : ℕ) → i < length l → drop i l ≡ getD l i 0 ∷ drop (i + 1) l
-from-here l i h = let e : suc i ≡ i + 1 = omega arith in drop-cons l i 0 h ∙ ap (λ (j : ℕ). getD l i 0 ∷ drop j l) e
-
 module _ (ts ls ps : List ℕ) (i : ℕ) where
   pub usages-next : i < length ts → usages (drop i ts) (drop i ls) (drop i ps) ≡ usage (getD ts i 0) (getD ls i 0) (getD ps i 0) ∷ usages (drop (i + 1) ts) (drop (i + 1) ls) (drop (i + 1) ps)
   unfolding usages
-  usages-next h = rw (from-here ts i h, at-front ls i, at-front ps i, drop-drop 1 i ls, drop-drop 1 i ps)
+  usages-next h = rw (from-here ts i 0 h, at-front ls i 0, at-front ps i 0, drop-drop 1 i ls, drop-drop 1 i ps)
 
   pub usages-end : length ts ≤ i → usages (drop i ts) (drop i ls) (drop i ps) ≡ []
   unfolding usages
@@ -129,11 +124,11 @@ module _ (ts ls ps : List ℕ) (i : ℕ) where
 module _ (block : ℕ) (ss ts ns : List ℕ) (i : ℕ) where
   pub ready-next : i < length ts → getD ss i 0 ≡ 1 → (bytes : ℕ) → bytes ≡ addedLen (getD ns i 0) block → readyUsages block (drop i ss) (drop i ts) (drop i ns) ≡ usage (getD ts i 0) (getD ns i 0) bytes ∷ readyUsages block (drop (i + 1) ss) (drop (i + 1) ts) (drop (i + 1) ns)
   unfolding readyUsages
-  ready-next h e bytes b = rw (from-here ts i h, at-front ss i, at-front ns i, drop-drop 1 i ss, drop-drop 1 i ns, e, b)
+  ready-next h e bytes b = rw (from-here ts i 0 h, at-front ss i 0, at-front ns i 0, drop-drop 1 i ss, drop-drop 1 i ns, e, b)
 
   pub ready-skip : i < length ts → (getD ss i 0 ≡ 1 → ⊥) → readyUsages block (drop i ss) (drop i ts) (drop i ns) ≡ readyUsages block (drop (i + 1) ss) (drop (i + 1) ts) (drop (i + 1) ns)
   unfolding readyUsages
-  ready-skip h e = rw (from-here ts i h, at-front ss i, at-front ns i, drop-drop 1 i ss, drop-drop 1 i ns, ne-eqb (getD ss i 0) 1 e)
+  ready-skip h e = rw (from-here ts i 0 h, at-front ss i 0, at-front ns i 0, drop-drop 1 i ss, drop-drop 1 i ns, ne-eqb (getD ss i 0) 1 e)
 
   pub ready-end : length ts ≤ i → readyUsages block (drop i ss) (drop i ts) (drop i ns) ≡ []
   unfolding readyUsages

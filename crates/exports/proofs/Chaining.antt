@@ -4,8 +4,8 @@ use mathlib.Core.List.{List, [], _∷_}
 use mathlib.Core.Path.{_≡_, refl, sym, subst}
 use lib.ListN.{length, getD, drop, drop-of-length-le}
 use lib.Seq.{drop-drop}
-use Rattle.accounting.proofs.Counting.{at-front, from-here}
-use Rattle.exports.specs.Each.{Chain, Question, questions}
+use Rattle.exports.specs.Each.{Chain, questions}
+use Rattle.numbers.proofs.Lists.{at-front, from-here}
 
 -- whatever leads from s over the rest to t leads from s₀ over all to it
 pub record Going {X S : Type 0} (R : X → S → S → Type 0) (all : List X) (s₀ : S) (rest : List X) (s : S) : Type 0 where
@@ -26,7 +26,7 @@ module _ {X S : Type 0} (R : X → S → S → Type 0) (all : List X) (s₀ : S)
 module _ (ts es : List ℕ) (i : ℕ) where
   pub questions-next : i < length ts → questions (drop i ts) (drop i es) ≡ record { tag = getD ts i 0; extra = getD es i 0 } ∷ questions (drop (i + 1) ts) (drop (i + 1) es)
   unfolding questions
-  questions-next h = rw (from-here ts i h, at-front es i, drop-drop 1 i es)
+  questions-next h = rw (from-here ts i 0 h, at-front es i 0, drop-drop 1 i es)
 
   pub questions-end : length ts ≤ i → questions (drop i ts) (drop i es) ≡ []
   unfolding questions

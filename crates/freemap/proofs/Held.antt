@@ -8,12 +8,12 @@ use native.Mathlib.Omega.{arith}
 use Rattle.freemap.specs.Bytes.{counted}
 use Rattle.freemap.specs.Gaps.{Covered, covered, gapsOf}
 use Rattle.numbers.specs.Lists.{All, any}
-use Rattle.numbers.specs.Range.{Range, endOf, Has, has, Meet, Disjoint, Within, total}
+use Rattle.numbers.specs.Range.{Range, endOf, Has, has, Disjoint, Within, total}
 use Rattle.numbers.specs.Sums.{top, sum}
 use Rattle.freemap.proofs.Words.{covered-true, free-and-covered}
 use Rattle.numbers.proofs.Cases.{cases, by-lt, clash}
-use Rattle.numbers.proofs.Disjoint.{MeetsNone, none-sym, disjoint-without}
-use Rattle.numbers.proofs.Lists.{all-right, any-append, or-swap}
+use Rattle.numbers.proofs.Disjoint.{MeetsNone, disjoint-middle, disjoint-without}
+use Rattle.numbers.proofs.Lists.{any-append, or-swap}
 use Rattle.numbers.proofs.Ranges.{end-exact, has-true, true-has}
 
 -- ---- bytes counted
@@ -61,11 +61,6 @@ none-shared : (y : Range) (rs : List Range) → MeetsNone y rs → (x : ℕ) →
 none-shared y [] n x h c = c
 none-shared y (r ∷ rs) n x h (inl c) = n .0 (record { byte = x; left = h; right = c })
 none-shared y (r ∷ rs) n x h (inr c) = none-shared y rs (n .1) x h c
-
--- of ranges of which no two meet, one meets none of the others
-disjoint-middle : (xs : List Range) (y : Range) (ys : List Range) → Disjoint (xs ++ (y ∷ ys)) → MeetsNone y (xs ++ ys)
-disjoint-middle [] y ys d = d .0
-disjoint-middle (x ∷ xs) y ys d = (none-sym x y (all-right (λ (q : Range). Meet x q → ⊥) xs (y ∷ ys) (d .0) .0), disjoint-middle xs y ys (d .1))
 
 module _ (te len : ℕ) (small : len ≤ top) where
   -- The bytes of [table end, length) that some range has.

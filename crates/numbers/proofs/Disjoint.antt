@@ -58,6 +58,10 @@ disjoint-with [] y ys d n = (n, d)
 disjoint-with (x ∷ xs) y ys d n =
     (all-append (λ (q : Range). Meet x q → ⊥) xs (y ∷ ys) (all-left (λ (q : Range). Meet x q → ⊥) xs ys (d .0)) (none-sym y x (n .0), all-right (λ (q : Range). Meet x q → ⊥) xs ys (d .0)), disjoint-with xs y ys (d .1) (n .1))
 
+pub disjoint-middle : (xs : List Range) (y : Range) (ys : List Range) → Disjoint (xs ++ (y ∷ ys)) → MeetsNone y (xs ++ ys)
+disjoint-middle [] y ys d = d .0
+disjoint-middle (x ∷ xs) y ys d = (none-sym x y (all-right (λ (q : Range). Meet x q → ⊥) xs (y ∷ ys) (d .0) .0), disjoint-middle xs y ys (d .1))
+
 pub disjoint-without : (xs : List Range) (y : Range) (ys : List Range) → Disjoint (xs ++ (y ∷ ys)) → Disjoint (xs ++ ys)
 disjoint-without [] y ys d = d .1
 disjoint-without (x ∷ xs) y ys d =

@@ -1,6 +1,6 @@
 -- What holds of every element of a list or of some: of its parts and at each index; what is written over a list's
 -- front. Over any element type.
-use Prim.Native.Nat.{ℕ, zero, suc, _-_, _≤_, _<_}
+use Prim.Native.Nat.{ℕ, zero, suc, _+_, _-_, _≤_, _<_}
 use mathlib.Core.Bool.{Bool, true, false, _||_, or-true, or-assoc}
 use mathlib.Core.List.{List, [], _∷_, _++_, map, reverse, reverse-cons}
 use mathlib.Core.Logic.{_⊎_, inl, inr, ⊎-elim}
@@ -8,7 +8,7 @@ use mathlib.Core.Path.{_≡_, refl, ap, sym, _∙_}
 use native.Mathlib.Nat.{le-of-suc-le-suc, not-suc-le-zero}
 use native.Mathlib.Omega.{arith}
 use lib.ListN.{length, getD, take, drop, set, length-append, length-drop, length-reverse, List·getD-append}
-use lib.Seq.{drop-cons, append-snoc, set-at, getD-at, getD-set-same, getD-set-other}
+use lib.Seq.{drop-cons, append-snoc, set-at, getD-at, getD-drop, getD-set-same, getD-set-other}
 use Rattle.numbers.specs.Lists.{All, Any, any, written}
 use Rattle.numbers.proofs.Cases.{cases, clash, by-lt}
 
@@ -171,6 +171,14 @@ module _ {A : Type 0} where
 
   pub stored-old : (l m : List A) (i j : ℕ) (a d : A) → m ≡ set l i a → (j ≡ i → ⊥) → getD m j d ≡ getD l j d
   stored-old l m i j a d e n = ap (λ (t : List A). getD t j d) e ∙ getD-set-other l i j a d n
+
+-- a list from i on
+module _ {A : Type 0} where
+  pub from-here : (l : List A) (i : ℕ) (d : A) → i < length l → drop i l ≡ getD l i d ∷ drop (i + 1) l
+  from-here l i d h = let e : suc i ≡ i + 1 = omega arith in drop-cons l i d h ∙ ap (λ (j : ℕ). getD l i d ∷ drop j l) e
+
+  pub at-front : (l : List A) (i : ℕ) (d : A) → getD (drop i l) 0 d ≡ getD l i d
+  at-front l i d = let e : i + 0 ≡ i = omega arith in getD-drop i l 0 d ∙ ap (λ (j : ℕ). getD l j d) e
 
 pub mapped-at : {A B : Type 0} (f : A → B) (l : List A) (i : ℕ) (d : A) (e : B) → i < length l → getD (map f l) i e ≡ f (getD l i d)
 mapped-at f [] i d e h = absurd (not-suc-le-zero h)

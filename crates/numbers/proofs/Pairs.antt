@@ -6,12 +6,12 @@ use mathlib.Core.Path.{_≡_, refl, ap, sym, _∙_}
 use native.Mathlib.Nat.{not-suc-le-zero}
 use native.Mathlib.Omega.{arith}
 use lib.ListN.{length, getD, take, drop, set, length-append}
-use lib.Seq.{drop-cons, take-at}
+use lib.Seq.{take-at}
 use borrow.Author.Tests.{eq-eqb, ne-eqb}
 use Rattle.numbers.specs.Lists.{written}
 use Rattle.numbers.specs.Pairs.{isOdd, pairs, flat}
 use Rattle.numbers.specs.Range.{Range, range, blank}
-use Rattle.numbers.proofs.Lists.{written-next}
+use Rattle.numbers.proofs.Lists.{from-here, written-next}
 
 two-suc : (i : ℕ) → 2 * suc i ≡ suc (suc (2 * i))
 two-suc i = omega arith
@@ -76,8 +76,7 @@ pair-at (o ∷ n ∷ l) (suc i) h = rw (two-suc-one i, two-suc i) (pair-at l i (
 -- the pairs from i on
 pub pair-next : (l : List ℕ) (i : ℕ) → i < length (pairs l) → drop i (pairs l) ≡ range (getD l (2 * i) 0) (getD l (2 * i + 1) 0) ∷ drop (i + 1) (pairs l)
 pair-next l i h =
-    let e : suc i ≡ i + 1 = omega arith in
-    drop-cons (pairs l) i blank h ∙ rw (pair-at l i (pair-in l i h), e)
+    from-here (pairs l) i blank h ∙ rw (pair-at l i (pair-in l i h))
 
 -- a store of both its numbers
 pub pair-set : (l : List ℕ) (i a b : ℕ) → 2 * i + 1 < length l → pairs (set (set l (2 * i) a) (2 * i + 1) b) ≡ set (pairs l) i (range a b)

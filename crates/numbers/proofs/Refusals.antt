@@ -1,5 +1,5 @@
 -- Tests in order: the first that fails gives its number; extents tested one by one.
-use Prim.Native.Nat.{ℕ, suc, _+_, _≤_, _<_}
+use Prim.Native.Nat.{ℕ, _+_, _≤_, _<_}
 use mathlib.Core.Bool.{Bool, true, false}
 use mathlib.Core.List.{List, [], _∷_, _++_}
 use mathlib.Core.Logic.{_⊎_, inl, inr}
@@ -7,13 +7,13 @@ use mathlib.Core.Path.{_≡_, refl, sym, _∙_}
 use native.Mathlib.Omega.{arith}
 use lib.Dec.{ltb}
 use lib.ListN.{length, getD, drop, drop-of-length-le}
-use lib.Seq.{drop-cons}
 use borrow.Author.Tests.{eq-eqb, ne-eqb, ltb-false, le-ltb}
 use Rattle.numbers.specs.Lists.{All}
 use Rattle.numbers.specs.Range.{Range, blank, total}
 use Rattle.numbers.specs.Refusals.{first, refuse, eachExtent}
 use Rattle.numbers.specs.Sums.{top, sum}
 use Rattle.numbers.proofs.Cases.{by-eq}
+use Rattle.numbers.proofs.Lists.{from-here}
 
 pub first-one : (n : ℕ) → first (n ∷ []) ≡ n
 unfolding first
@@ -134,9 +134,7 @@ walk-begins outside xs n e = record { all = e; below = omega arith; sums = omega
 module _ {outside : Range → Bool} {xs : List Range} {n i s : ℕ} (g : Walked outside xs n i s) where
   module _ (l : i < n) (x : Range) (at : getD xs i blank ≡ x) where
     next : drop i xs ≡ x ∷ drop (i + 1) xs
-    next =
-        let e : suc i ≡ i + 1 = omega arith in
-        drop-cons xs i blank (omega (arith, g .all)) ∙ rw (at, e)
+    next = from-here xs i blank (omega (arith, g .all)) ∙ rw at
 
     pub walk-outside : outside x ≡ true → eachExtent outside 0 xs ≡ 11
     unfolding first refuse eachExtent

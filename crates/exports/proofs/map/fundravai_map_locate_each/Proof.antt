@@ -7,7 +7,7 @@ use mathlib.Core.Bool.{true, false}
 use lib.ListN.{length, drop, set, drop-of-length-le, length-set}
 use borrow.Author.Tests.{lt-ltb, le-ltb}
 use Rattle.numbers.proofs.Cases.{clash}
-use Rattle.accounting.proofs.Counting.{from-here}
+use Rattle.numbers.proofs.Lists.{from-here}
 use Rattle.exports.specs.Each.{Locate, locating}
 use Rattle.exports.specs.Flat.{mapFrom}
 use Rattle.exports.proofs.Chaining.{Going, going-begins, going-on, going-ends}
@@ -57,7 +57,7 @@ loop-less : tie.Need-loop-less Inv-loop μ-loop
 loop-less c = omega (arith, c .before .before .before .before .before .loop-test .taken)
 
 loop-again : tie.Need-loop-again Inv-loop μ-loop
-loop-again c = let v = c .before .before .before .before .before .before .loop .inv in let i : c .before .before .before .before .before .before .loop .i + 1 - 1 ≡ c .before .before .before .before .before .before .loop .i = omega arith in (omega (arith, c .before .before .before .before .before .loop-test .taken), omega (arith, v .1), simp length-set (v .2), going-on (Locate _ _ _ _) _ _ (v .3) (from-here _ _ (c .before .before .before .before .before .loop-test .taken)) (record { place = _; promise = c .before .before .before .locate .ensures; bytes = rw (c .before .place .given .1, i) refl; next = refl; count = rw (c .before .place .given .1) refl }))
+loop-again c = let v = c .before .before .before .before .before .before .loop .inv in let i : c .before .before .before .before .before .before .loop .i + 1 - 1 ≡ c .before .before .before .before .before .before .loop .i = omega arith in (omega (arith, c .before .before .before .before .before .loop-test .taken), omega (arith, v .1), simp length-set (v .2), going-on (Locate _ _ _ _) _ _ (v .3) (from-here _ _ 0 (c .before .before .before .before .before .loop-test .taken)) (record { place = _; promise = c .before .before .before .locate .ensures; bytes = rw (c .before .place .given .1, i) refl; next = refl; count = rw (c .before .place .given .1) refl }))
 
 enum-told : tie.Need-enum-told Inv-loop μ-loop
 enum-told c = search needs
@@ -66,7 +66,7 @@ loop-less-2 : tie.Need-loop-less-2 Inv-loop μ-loop
 loop-less-2 c = omega (arith, c .before .before .before .before .loop-test .taken)
 
 loop-again-2 : tie.Need-loop-again-2 Inv-loop μ-loop
-loop-again-2 c = let v = c .before .before .before .before .before .loop .inv in (omega (arith, c .before .before .before .before .loop-test .taken), omega (arith, v .1), v .2, going-on (Locate _ _ _ _) _ _ (v .3) (from-here _ _ (c .before .before .before .before .loop-test .taken)) (record { place = _; promise = c .before .before .locate .ensures; bytes = rw (c .enum-told .given .1) refl; next = refl; count = rw (c .enum-told .given .1) (omega arith) }))
+loop-again-2 c = let v = c .before .before .before .before .before .loop .inv in (omega (arith, c .before .before .before .before .loop-test .taken), omega (arith, v .1), v .2, going-on (Locate _ _ _ _) _ _ (v .3) (from-here _ _ 0 (c .before .before .before .before .loop-test .taken)) (record { place = _; promise = c .before .before .locate .ensures; bytes = rw (c .enum-told .given .1) refl; next = refl; count = rw (c .enum-told .given .1) (omega arith) }))
 
 same-length : tie.Need-same-length Inv-loop μ-loop
 same-length c = c .before .loop .inv .2

@@ -4,7 +4,7 @@ use native.Mathlib.Omega.{arith}
 use Prim.Native.Nat.{_+_, _-_, _≤_}
 use mathlib.Core.Path.{refl}
 use lib.ListN.{length, drop, drop-of-length-le}
-use Rattle.accounting.proofs.Counting.{from-here}
+use Rattle.numbers.proofs.Lists.{from-here}
 use Rattle.exports.specs.Each.{Publish, publishing}
 use Rattle.exports.proofs.Chaining.{Going, going-begins, going-on, going-ends}
 use Rattle.exports.proofs.map.fundravai_map_publish_each.Statement.{statement}
@@ -41,7 +41,7 @@ loop-less : tie.Need-loop-less Inv-loop μ-loop
 loop-less c = omega (arith, c .before .before .before .before .before .loop-test .taken)
 
 loop-again : tie.Need-loop-again Inv-loop μ-loop
-loop-again c = let v = c .before .before .before .before .before .before .loop .inv in (omega (arith, c .before .before .before .before .before .loop-test .taken), omega (arith, v .1), going-on Publish _ _ (v .2) (from-here _ _ (c .before .before .before .before .before .loop-test .taken)) (record { answer = _; promise = c .before .before .before .publish-len .ensures; map = rw (c .before .mapped .given .1) refl; count = rw (c .before .mapped .given .1) refl }))
+loop-again c = let v = c .before .before .before .before .before .before .loop .inv in (omega (arith, c .before .before .before .before .before .loop-test .taken), omega (arith, v .1), going-on Publish _ _ (v .2) (from-here _ _ 0 (c .before .before .before .before .before .loop-test .taken)) (record { answer = _; promise = c .before .before .before .publish-len .ensures; map = rw (c .before .mapped .given .1) refl; count = rw (c .before .mapped .given .1) refl }))
 
 enum-told : tie.Need-enum-told Inv-loop μ-loop
 enum-told c = search needs
@@ -50,7 +50,7 @@ loop-less-2 : tie.Need-loop-less-2 Inv-loop μ-loop
 loop-less-2 c = omega (arith, c .before .before .before .before .loop-test .taken)
 
 loop-again-2 : tie.Need-loop-again-2 Inv-loop μ-loop
-loop-again-2 c = let v = c .before .before .before .before .before .loop .inv in (omega (arith, c .before .before .before .before .loop-test .taken), omega (arith, v .1), going-on Publish _ _ (v .2) (from-here _ _ (c .before .before .before .before .loop-test .taken)) (record { answer = _; promise = c .before .before .publish-len .ensures; map = rw (c .enum-told .given .1) refl; count = rw (c .enum-told .given .1) (omega arith) }))
+loop-again-2 c = let v = c .before .before .before .before .before .loop .inv in (omega (arith, c .before .before .before .before .loop-test .taken), omega (arith, v .1), going-on Publish _ _ (v .2) (from-here _ _ 0 (c .before .before .before .before .loop-test .taken)) (record { answer = _; promise = c .before .before .publish-len .ensures; map = rw (c .enum-told .given .1) refl; count = rw (c .enum-told .given .1) (omega arith) }))
 
 hand-out-requires : tie.Need-hand-out-requires Inv-loop μ-loop
 hand-out-requires c κs = search needs
