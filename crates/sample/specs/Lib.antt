@@ -1,2 +1,4 @@
 pub mod Sample
+pub mod Words
+pub mod Tally
 pub mod Inner

@@ -31,8 +31,3 @@ pub record Filled (text entry exit : List ℕ) (n : ℕ) : Type 0 where
   pub count : n ≡ min (length (numbersIn text)) (length entry)
   pub slots : exit ≡ take n (numbersIn text) ++ drop n entry
   pub inside : n ≤ length exit
-
--- Whether two lists are the same.
-pub record Same (a b : List ℕ) (r : Bool) : Type 0 where
-  pub yes : r ≡ true → a ≡ b
-  pub no : r ≡ false → a ≡ b → ⊥

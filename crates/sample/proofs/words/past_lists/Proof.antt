@@ -1,13 +1,15 @@
--- `sample::words::past_lists` meets its contract: i is a place of w.
-use Prim.Native.Nat.{_-_, _≤_}
+-- `sample::words::past_lists` meets its contract: k lists were passed, and the next one begins at place i.
+use Prim.Native.Nat.{_-_}
+use mathlib.Core.Path.{ap, _∙_}
 use native.Mathlib.Omega.{arith}
-use lib.ListN.{length}
 use borrow.Author.Needs.{needs}
+use Rattle.sample.specs.Words.{pastLists}
+use Rattle.sample.proofs.Parts.{Passing, pass-begins, pass-on, pass-ends}
 use Rattle.sample.proofs.words.past_lists.Statement.{statement}
 use Rattle.sample.proofs.words.past_lists.Tie as tie
 
 abbrev Inv-loop : tie.InvT-loop
-Inv-loop w from n lists i₀ k₀ i k = (i ≤ length lists) × (k ≤ n)
+Inv-loop w from n lists i₀ k₀ i k = Passing lists n i k
 
 abbrev μ-loop : tie.MeasureT-loop
 μ-loop w from n lists i₀ k₀ i k = n - k
@@ -16,7 +18,7 @@ past-requires : tie.Need-past-requires Inv-loop μ-loop
 past-requires c κs = search needs
 
 loop-holds : tie.Need-loop-holds Inv-loop μ-loop
-loop-holds c = omega arith
+loop-holds c = pass-begins _ _
 
 mul-past-list : tie.Need-mul-past-list Inv-loop μ-loop
 mul-past-list c = omega arith
@@ -43,7 +45,7 @@ loop-less : tie.Need-loop-less Inv-loop μ-loop
 loop-less c = omega arith
 
 loop-again : tie.Need-loop-again Inv-loop μ-loop
-loop-again c = omega arith
+loop-again c = pass-on (c .before .before .before .loop .inv) _ (c .past-list .ensures .0) (c .before .before .loop-test .taken)
 
 mul-result : tie.Need-mul-result Inv-loop μ-loop
 mul-result c = omega arith
@@ -58,7 +60,7 @@ part-result-end : tie.Need-part-result-end Inv-loop μ-loop
 part-result-end c = omega arith
 
 returns : tie.Need-returns Inv-loop μ-loop
-returns c = search needs
+returns c = pass-ends (c .before .before .loop .inv) (c .before .loop-test .left) ∙ ap (pastLists (c .before .before .before .before .before .args .n)) (c .before .before .before .past .ensures .0)
 
 pub past-lists-spec : {M : Type 1} → statement M
 past-lists-spec =

@@ -2,7 +2,7 @@
 use Prim.Native.Nat.{_-_}
 use native.Mathlib.Omega.{arith}
 use lib.ListN.{length}
-use Rattle.sample.proofs.Parts.{Matching, match-begins, match-on, match-ends, match-stops, match-lengths}
+use Rattle.sample.proofs.Parts.{Matching, match-begins, match-on, match-ends, match-stops, not-same}
 use Rattle.sample.proofs.words.same.Statement.{statement}
 use Rattle.sample.proofs.words.same.Tie as tie
 
@@ -13,7 +13,7 @@ abbrev μ-loop : tie.MeasureT-loop
 μ-loop a b i₀ i = length a - i
 
 returns : tie.Need-returns Inv-loop μ-loop
-returns c = match-lengths (c .before .args .a .now) (c .before .args .b .now) (c .if1 .taken)
+returns c = not-same length (c .before .args .a .now) (c .before .args .b .now) (c .if1 .taken)
 
 loop-holds : tie.Need-loop-holds Inv-loop μ-loop
 loop-holds c = match-begins (c .before .args .a .now) (c .before .args .b .now) (c .if1 .left)
@@ -31,7 +31,7 @@ shared-slice-read-if2-2 : tie.Need-shared-slice-read-if2-2 Inv-loop μ-loop
 shared-slice-read-if2-2 c = omega (arith, c .before .before .before .loop .inv .long, c .before .before .loop-test .taken)
 
 returns-2 : tie.Need-returns-2 Inv-loop μ-loop
-returns-2 c = match-stops (c .before .before .before .before .before .before .args .a .now) (c .before .before .before .before .before .before .args .b .now) (c .before .before .before .before .loop .i) (c .if2 .taken)
+returns-2 c = match-stops (c .before .before .before .before .loop .inv) (c .if2 .taken)
 
 add-i : tie.Need-add-i Inv-loop μ-loop
 add-i c = omega (arith, c .before .before .before .before .loop .inv .long, c .before .before .before .loop-test .taken)

@@ -1,22 +1,22 @@
--- `sample::words::same_bytes` is safe and ends.
-use Prim.Native.Nat.{_-_, _≤_}
+-- `sample::words::same_bytes` meets its contract, as `same` does.
+use Prim.Native.Nat.{_-_}
 use native.Mathlib.Omega.{arith}
 use lib.ListN.{length}
-use borrow.Author.Needs.{needs}
+use Rattle.sample.proofs.Parts.{Matching, match-begins, match-on, match-ends, match-stops, not-same}
 use Rattle.sample.proofs.words.same_bytes.Statement.{statement}
 use Rattle.sample.proofs.words.same_bytes.Tie as tie
 
 abbrev Inv-loop : tie.InvT-loop
-Inv-loop bytes numbers i₀ i = i ≤ length bytes
+Inv-loop bytes numbers i₀ i = Matching bytes numbers i
 
 abbrev μ-loop : tie.MeasureT-loop
 μ-loop bytes numbers i₀ i = length bytes - i
 
 returns : tie.Need-returns Inv-loop μ-loop
-returns c = search needs
+returns c = not-same length (c .before .args .bytes .now) (c .before .args .numbers .now) (c .if1 .taken)
 
 loop-holds : tie.Need-loop-holds Inv-loop μ-loop
-loop-holds c = omega arith
+loop-holds c = match-begins _ _ (c .if1 .left)
 
 shared-slice-read-if2 : tie.Need-shared-slice-read-if2 Inv-loop μ-loop
 shared-slice-read-if2 c = omega arith
@@ -31,7 +31,7 @@ shared-slice-read-if2-2 : tie.Need-shared-slice-read-if2-2 Inv-loop μ-loop
 shared-slice-read-if2-2 c = omega arith
 
 returns-2 : tie.Need-returns-2 Inv-loop μ-loop
-returns-2 c = search needs
+returns-2 c = match-stops (c .before .before .before .before .loop .inv) (c .if2 .taken)
 
 add-i : tie.Need-add-i Inv-loop μ-loop
 add-i c = omega arith
@@ -40,10 +40,10 @@ loop-less : tie.Need-loop-less Inv-loop μ-loop
 loop-less c = omega arith
 
 loop-again : tie.Need-loop-again Inv-loop μ-loop
-loop-again c = omega arith
+loop-again c = match-on (c .before .before .before .before .loop .inv) (c .before .before .before .loop-test .taken) (c .if2 .left)
 
 returns-3 : tie.Need-returns-3 Inv-loop μ-loop
-returns-3 c = search needs
+returns-3 c = match-ends (c .before .loop .inv) (c .loop-test .left)
 
 pub same-bytes-spec : {M : Type 1} → statement M
 same-bytes-spec =

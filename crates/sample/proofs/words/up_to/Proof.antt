@@ -1,19 +1,19 @@
--- `sample::words::up_to` is safe and ends.
-use Prim.Native.Nat.{_-_, _≤_}
+-- `sample::words::up_to` meets its contract: none of the first i numbers is above top.
+use Prim.Native.Nat.{_-_}
 use native.Mathlib.Omega.{arith}
 use lib.ListN.{length}
-use borrow.Author.Needs.{needs}
+use Rattle.sample.proofs.Parts.{Bounded, bound-begins, bound-on, bound-stops, bound-ends}
 use Rattle.sample.proofs.words.up_to.Statement.{statement}
 use Rattle.sample.proofs.words.up_to.Tie as tie
 
 abbrev Inv-loop : tie.InvT-loop
-Inv-loop numbers top i₀ i = i ≤ length numbers
+Inv-loop numbers top i₀ i = Bounded top numbers i
 
 abbrev μ-loop : tie.MeasureT-loop
 μ-loop numbers top i₀ i = length numbers - i
 
 loop-holds : tie.Need-loop-holds Inv-loop μ-loop
-loop-holds c = omega arith
+loop-holds c = bound-begins _ _
 
 mul-if1 : tie.Need-mul-if1 Inv-loop μ-loop
 mul-if1 c = omega arith
@@ -22,7 +22,7 @@ shared-slice-read-if1 : tie.Need-shared-slice-read-if1 Inv-loop μ-loop
 shared-slice-read-if1 c = omega arith
 
 returns : tie.Need-returns Inv-loop μ-loop
-returns c = search needs
+returns c = bound-stops (c .before .before .before .loop .inv) (c .before .before .loop-test .taken) (c .if1 .taken)
 
 add-i : tie.Need-add-i Inv-loop μ-loop
 add-i c = omega arith
@@ -31,10 +31,10 @@ loop-less : tie.Need-loop-less Inv-loop μ-loop
 loop-less c = omega arith
 
 loop-again : tie.Need-loop-again Inv-loop μ-loop
-loop-again c = omega arith
+loop-again c = bound-on (c .before .before .before .loop .inv) (c .before .before .loop-test .taken) (c .if1 .left)
 
 returns-2 : tie.Need-returns-2 Inv-loop μ-loop
-returns-2 c = search needs
+returns-2 c = bound-ends (c .before .loop .inv) (c .loop-test .left)
 
 pub up-to-spec : {M : Type 1} → statement M
 up-to-spec =
