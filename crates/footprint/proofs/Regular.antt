@@ -36,6 +36,10 @@ pub record Agreed (id : ℕ) (e : Entry) (h : Header) : Type 0 where
   pub count : (h .«extent_count» ≡ e .«extent_count») ⊎ ((e .kind ≡ Slot → ⊥) × (h .«extent_count» ≡ e .«extent_count» + 1))
   pub multiple : e .«data_size» % 2 ^ (h .«log2_block») ≡ 0
 
+-- a Slot region lists no extra
+pub slot-listed : (id : ℕ) (e : Entry) (h : Header) → Agreed id e h → e .kind ≡ Slot → h .«extent_count» ≡ e .«extent_count»
+slot-listed id e h g s = ⊎-elim (λ c. c) (λ c. absurd (c .0 s)) (g .count)
+
 -- what an accepted region has: its header blocks and committed extents, in data order, do not meet
 pub record Regular (lim : Limits) (id : ℕ) (e : Entry) (h : Header) (xs : List ℕ) (places : ℕ) : Type 0 where
   pub lists : Lists lim e h xs places

@@ -7,10 +7,12 @@ use mathlib.Core.Logic.{_⊎_, inl, inr, ⊎-elim}
 use mathlib.Core.Path.{_≡_, refl, ap, sym, _∙_}
 use native.Mathlib.Nat.{le-of-suc-le-suc, not-suc-le-zero}
 use native.Mathlib.Omega.{arith}
+use lib.Dec.{eqb}
 use lib.ListN.{length, getD, take, drop, set, length-append, length-drop, length-reverse, List·getD-append}
 use lib.Seq.{drop-cons, append-snoc, set-at, getD-at, getD-drop, getD-set-same, getD-set-other}
-use Rattle.numbers.specs.Lists.{All, Any, any, written}
-use Rattle.numbers.proofs.Cases.{cases, clash, by-lt}
+use borrow.Author.Tests.{eq-eqb, eqb-true}
+use Rattle.numbers.specs.Lists.{All, Any, any, same, written}
+use Rattle.numbers.proofs.Cases.{cases, clash, by-lt, and-true}
 
 module _ {A : Type 0} (P : A → Type 0) where
   pub all-append : (xs ys : List A) → All P xs → All P ys → All P (xs ++ ys)
@@ -149,6 +151,22 @@ module _ {A : Type 0} (f : A → Bool) where
   unfolding any
   any-same P g e [] a = refl
   any-same P g e (x ∷ xs) a = rw (e x (a .0), any-same P g e xs (a .1))
+
+-- two lists compared
+pub same-true : (a b : List ℕ) → same a b ≡ true → a ≡ b
+unfolding same
+same-true [] [] e = refl
+same-true [] (y ∷ b) e = clash {b = false} e refl
+same-true (x ∷ a) [] e = clash {b = false} e refl
+same-true (x ∷ a) (y ∷ b) e = let p = and-true (eqb x y) (same a b) e in rw (eqb-true x y (p .0), same-true a b (p .1))
+
+pub true-same : (a b : List ℕ) → a ≡ b → same a b ≡ true
+unfolding same
+true-same a b e = rw e (itself b)
+  where
+    itself : (l : List ℕ) → same l l ≡ true
+    itself [] = refl
+    itself (x ∷ l) = simp (eq-eqb x x refl, itself l)
 
 module _ {A : Type 0} where
   pub written-length : (xs s : List A) → length xs ≤ length s → length (written xs s) ≡ length s

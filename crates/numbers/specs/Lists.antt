@@ -1,7 +1,9 @@
 -- What holds of every element of a list, and of some; and a list written over the front of another.
-use mathlib.Core.Bool.{Bool, false, cond, _||_}
+use Prim.Native.Nat.{ℕ}
+use mathlib.Core.Bool.{Bool, true, false, cond, _&&_, _||_}
 use mathlib.Core.List.{List, [], _∷_, _++_}
 use mathlib.Core.Logic.{_⊎_}
+use lib.Dec.{eqb}
 use lib.ListN.{length, drop}
 
 abbrev pub All : {A : Type 0} → (A → Type 0) → List A → Type 0
@@ -16,6 +18,13 @@ Any P (x ∷ xs) = P x ⊎ Any P xs
 unfoldable pub any : {A : Type 0} → (A → Bool) → List A → Bool
 any f [] = false
 any f (x ∷ xs) = f x || any f xs
+
+-- Two lists of numbers are the same; `same-true` and `true-same` (proofs/Lists) say that this is equality.
+unfoldable pub same : List ℕ → List ℕ → Bool
+same [] [] = true
+same [] (y ∷ ys) = false
+same (x ∷ xs) [] = false
+same (x ∷ xs) (y ∷ ys) = eqb x y && same xs ys
 
 -- xs in the first slots of s: "slots past a written answer keep their content".
 abbrev pub written : {A : Type 0} → List A → List A → List A

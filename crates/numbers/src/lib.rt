@@ -8,6 +8,9 @@ ghost use lib.Dec.{ltb};
 ghost use Rattle.numbers.specs.Sums.{stop};
 ghost use Rattle.numbers.specs.Powers.{isPowerOfTwo};
 
+// The greatest place, 2^64 - 1.
+const TOP: usize = 0xffff_ffff_ffff_ffff;
+
 // a + b, or 2^64 - 1 where the sum passes it.
 pub fn add_stop(a: u64, b: u64) -> u64
     ensures { λ r. ⌜ r ≡ stop (a + b) ⌝ }
@@ -54,8 +57,8 @@ pub fn advance(lo: usize, step: usize, up: bool) -> usize
     ensures { λ r. ⌜ r ≡ stop (lo + cond up step 0) ⌝ }
 {
     let more = wrapping_sub_usize(step << (up as usize), step);
-    if 0xffff_ffff_ffff_ffff - lo < more {
-        return 0xffff_ffff_ffff_ffff;
+    if TOP - lo < more {
+        return TOP;
     }
     lo + more
 }

@@ -6,13 +6,13 @@ use mathlib.Core.Path.{_≡_, refl, ap, sym, _∙_}
 use native.Mathlib.Nat.{sub-zero}
 use native.Mathlib.Numerals.{add-one}
 use native.Mathlib.Omega.{arith}
-use lib.Dec.{eqb}
 use lib.ListN.{length, getD, take, drop, set, length-take, length-drop, length-set, drop-of-length-le}
 use lib.Seq.{take-all, take-suc, take-suc-set, drop-cons, drop-drop}
-use borrow.Author.Tests.{lt-ltb, le-ltb, eqb-true, eq-eqb}
-use Rattle.numbers.specs.Lists.{any}
-use Rattle.sample.specs.Words.{pastList, pastLists, upTo, same}
-use Rattle.numbers.proofs.Cases.{clash, never, and-true, by-lt}
+use borrow.Author.Tests.{lt-ltb, le-ltb}
+use Rattle.numbers.specs.Lists.{any, same}
+use Rattle.sample.specs.Words.{pastList, pastLists, upTo}
+use Rattle.numbers.proofs.Cases.{never, by-lt}
+use Rattle.numbers.proofs.Lists.{same-true, true-same}
 
 module _ (w : List ℕ) (n : ℕ) where
   pub rest : take (length w - n) (drop n w) ≡ drop n w
@@ -69,24 +69,9 @@ module _ {lists : List ℕ} {n i k : ℕ} (g : Passing lists n i k) where
 
 -- ---- two lists compared
 
-pub same-equal : (a b : List ℕ) → same a b ≡ true → a ≡ b
-unfolding same
-same-equal [] [] e = refl
-same-equal [] (y ∷ ys) e = clash {b = false} e refl
-same-equal (x ∷ xs) [] e = clash {b = false} e refl
-same-equal (x ∷ xs) (y ∷ ys) e = let h = and-true (eqb x y) (same xs ys) e in rw (eqb-true x y (h .0), same-equal xs ys (h .1))
-
-same-itself : (a : List ℕ) → same a a ≡ true
-unfolding same
-same-itself [] = refl
-same-itself (x ∷ xs) = rw (eq-eqb x x refl, same-itself xs)
-
-pub equal-same : (a b : List ℕ) → a ≡ b → same a b ≡ true
-equal-same a b e = ap (same a) (sym e) ∙ same-itself a
-
 -- what differs in any way is not the same
 pub not-same : {A : Type 0} (f : List ℕ → A) (a b : List ℕ) → (f a ≡ f b → ⊥) → false ≡ same a b
-not-same f a b d = sym (never (same a b) (λ t. d (ap f (same-equal a b t))))
+not-same f a b d = sym (never (same a b) (λ t. d (ap f (same-true a b t))))
 
 -- the first i numbers of two lists are the same
 pub record Matching (a b : List ℕ) (i : ℕ) : Type 0 where
@@ -110,7 +95,7 @@ module _ {a b : List ℕ} {i : ℕ} (g : Matching a b i) where
   match-stops d = not-same (λ l. getD l i 0) a b d
 
   pub match-ends : length a ≤ i → true ≡ same a b
-  match-ends l = sym (equal-same a b (sym (take-all i a l) ∙ g .front ∙ take-all i b (omega (arith, g .long))))
+  match-ends l = sym (true-same a b (sym (take-all i a l) ∙ g .front ∙ take-all i b (omega (arith, g .long))))
 
 -- ---- numbers held against a bound
 

@@ -1,6 +1,6 @@
 -- What reading one byte leaves to be done; `numbers_in` promises nothing by these.
 use Prim.Native.Nat.{ℕ, _+_, _≤_, min}
-use mathlib.Core.Bool.{Bool, cond}
+use mathlib.Core.Bool.{cond}
 use mathlib.Core.List.{List, [], _∷_}
 use mathlib.Core.Path.{_≡_}
 use lib.Dec.{ltb}

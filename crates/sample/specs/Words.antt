@@ -1,10 +1,10 @@
 -- Lists of numbers that may be shorter than they say: their parts, and two lists compared.
 use Prim.Native.Nat.{ℕ, zero, suc, _%_}
-use mathlib.Core.Bool.{Bool, true, false, not, _&&_}
-use mathlib.Core.List.{List, [], _∷_, map}
-use lib.Dec.{ltb, leb, eqb}
+use mathlib.Core.Bool.{Bool, not, _&&_}
+use mathlib.Core.List.{List, map}
+use lib.Dec.{ltb, leb}
 use lib.ListN.{length, getD, take, drop}
-use Rattle.numbers.specs.Lists.{any}
+use Rattle.numbers.specs.Lists.{any, same}
 
 -- The list that w begins with: its length, and so many numbers.
 abbrev pub listOf : List ℕ → List ℕ
@@ -26,13 +26,6 @@ upTo top numbers = not (any (λ (n : ℕ). ltb top n) numbers)
 -- The list that w begins with is whole, all its numbers following its length, and has at most so many, each at most top.
 abbrev pub isWhole : ℕ → ℕ → List ℕ → Bool
 isWhole most top w = ltb (getD w 0 0) (length w) && leb (getD w 0 0) most && upTo top (listOf w)
-
--- Two lists are the same; `same-equal` and `equal-same` (proofs/Parts) say that this is equality.
-unfoldable pub same : List ℕ → List ℕ → Bool
-same [] [] = true
-same [] (y ∷ ys) = false
-same (x ∷ xs) [] = false
-same (x ∷ xs) (y ∷ ys) = eqb x y && same xs ys
 
 -- Two lists are the same but for the slots from `from` up to `to`.
 abbrev pub sameOutside : ℕ → ℕ → List ℕ → List ℕ → Bool

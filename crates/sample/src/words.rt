@@ -2,7 +2,8 @@
 ghost use mathlib.Core.Path.{_≡_};
 ghost use Prim.Native.Nat.{_-_, _≤_};
 ghost use lib.ListN.{length, getD, take, drop};
-ghost use Rattle.sample.specs.Words.{listOf, pastList, pastLists, upTo, isWhole, same, sameOutside, asBytes};
+ghost use Rattle.numbers.specs.Lists.{same};
+ghost use Rattle.sample.specs.Words.{listOf, pastList, pastLists, upTo, isWhole, sameOutside, asBytes};
 
 // The number at place i, 0 where there is none.
 pub fn at(w: &[u64], i: usize) -> u64

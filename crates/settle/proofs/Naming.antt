@@ -1,7 +1,7 @@
 -- Names: their tags, their comparison, and which of the records are renamed.
 use Prim.Native.Nat.{ℕ, zero, suc, _+_, _-_, _*_, _%_, _≤_, _<_}
 use mathlib.Core.Bool.{Bool, true, false, not, _&&_, and-false, or-true as or-right}
-use mathlib.Core.List.{List, [], _∷_}
+use mathlib.Core.List.{List, _∷_}
 use mathlib.Core.Logic.{⊎-elim}
 use mathlib.Core.Path.{_≡_, refl, ap, sym, _∙_}
 use native.Mathlib.Numerals.{add-one}
@@ -11,9 +11,10 @@ use lib.ListN.{length, getD, take, drop, set, length-set, length-take, drop-of-l
 use lib.Seq.{drop-cons, getD-set-same, getD-set-other}
 use borrow.Author.Count.{below-more}
 use borrow.Author.Tests.{eqb-true, eq-eqb, ne-eqb, le-leb, lt-leb}
+use Rattle.numbers.specs.Lists.{same}
 use Rattle.settle.specs.Naming.{nameAt, tagFrom, tagOf, Tagged, Listed, Absent, rivals, anyBelow, outdone}
-use Rattle.settle.specs.Settle.{same}
 use Rattle.numbers.proofs.Cases.{cases, by-eq, by-lt, clash, and-true, or-true}
+use Rattle.numbers.proofs.Lists.{same-true}
 
 -- ---- the tag of a name, byte by byte
 
@@ -37,23 +38,6 @@ module _ {name : List ℕ} {i tag : ℕ} (g : Mixed name i tag) where
   mix-ends h = rw (drop-of-length-le name {i = i} h) at (g .rest)
 
 -- ---- two names, byte by byte
-
-pub same-true : (a b : List ℕ) → same a b ≡ true → a ≡ b
-unfolding same
-same-true [] [] e = refl
-same-true [] (y ∷ b) e = clash {b = false} e refl
-same-true (x ∷ a) [] e = clash {b = false} e refl
-same-true (x ∷ a) (y ∷ b) e =
-    let p = and-true (eqb x y) (same a b) e in
-    rw (eqb-true x y (p .0), same-true a b (p .1))
-
-pub true-same : (a b : List ℕ) → a ≡ b → same a b ≡ true
-unfolding same
-true-same a b e = rw e (self b)
-  where
-    self : (l : List ℕ) → same l l ≡ true
-    self [] = refl
-    self (x ∷ l) = simp (eq-eqb x x refl, self l)
 
 pub record Matched (a b : List ℕ) (i : ℕ) : Type 0 where
   pub long : length a ≡ length b

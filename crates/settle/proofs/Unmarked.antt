@@ -8,21 +8,21 @@ use native.Mathlib.Omega.{arith}
 use lib.Dec.{eqb, leb}
 use lib.ListN.{length, getD, take, drop, length-map}
 use borrow.Author.Tests.{leb-true, le-leb, eq-eqb, ne-eqb}
-use Rattle.numbers.specs.Lists.{any}
+use Rattle.numbers.specs.Lists.{any, same}
 use Rattle.numbers.specs.Range.{Range, blank, Meet, Disjoint}
 use Rattle.settle.specs.Inner.{noRegion}
 use Rattle.settle.specs.Laying.{noPiece}
 use Rattle.settle.specs.Naming.{anyBelow}
 use Rattle.settle.specs.Regions.{Region, Piece, piece, pieces, piecesFrom}
-use Rattle.settle.specs.Settle.{same, overlapped, renamed, superseded, marksOf}
+use Rattle.settle.specs.Settle.{overlapped, renamed, superseded, marksOf}
 use Rattle.numbers.proofs.Cases.{by-lt, by-eq, clash, never, and-true, or-false}
 use Rattle.numbers.proofs.Disjoint.{disjoint-at, at-disjoint}
-use Rattle.numbers.proofs.Lists.{all-at, mapped-at}
+use Rattle.numbers.proofs.Lists.{same-true, true-same, all-at, mapped-at}
 use Rattle.numbers.proofs.Ranges.{meet-sym}
 use Rattle.settle.proofs.Marking.{mark-at, mark-none, none-mark}
 use Rattle.settle.proofs.Meeting.{Of, pieces-of}
 use Rattle.settle.proofs.Namesakes.{alike, named, others-by-index, renamed-others}
-use Rattle.settle.proofs.Naming.{same-true, true-same, below-of, below-true}
+use Rattle.settle.proofs.Naming.{below-of, below-true}
 use Rattle.settle.proofs.Words.{Overlap, overlapped-true, overlap-true, superseded-true}
 
 -- ---- no range meets another

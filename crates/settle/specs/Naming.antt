@@ -5,7 +5,7 @@ use mathlib.Core.List.{List, [], _∷_}
 use mathlib.Core.Path.{_≡_}
 use lib.Dec.{eqb, leb}
 use lib.ListN.{length, getD, take, drop}
-use Rattle.settle.specs.Settle.{same}
+use Rattle.numbers.specs.Lists.{same}
 
 -- The name of the record j.
 abbrev pub nameAt : (lens names : List ℕ) → ℕ → List ℕ

@@ -1,11 +1,11 @@
 -- Document 01, "`settle`": which usable regions are overlapped, renamed or superseded, and what is refused.
-use Prim.Native.Nat.{ℕ, zero, suc, _+_, _*_, max}
+use Prim.Native.Nat.{ℕ, suc, _+_, _*_, max}
 use mathlib.Core.Bool.{Bool, true, false, cond, not, _&&_, _||_}
 use mathlib.Core.List.{List, [], _∷_, _++_}
 use mathlib.Core.Path.{_≡_}
 use lib.Dec.{eqb, ltb, leb}
 use lib.ListN.{length, take}
-use Rattle.numbers.specs.Lists.{any, written}
+use Rattle.numbers.specs.Lists.{any, same, written}
 use Rattle.numbers.specs.Pairs.{isOdd, pairs}
 use Rattle.numbers.specs.Range.{meets}
 use Rattle.numbers.specs.Refusals.{refuse}
@@ -32,13 +32,6 @@ superseded us un i =
 unfoldable pub keep : {A : Type 0} → (A → Bool) → List A → List A
 keep f [] = []
 keep f (x ∷ xs) = cond (f x) (x ∷ keep f xs) (keep f xs)
-
--- Two names are the same: `same-true` and `true-same` (proofs/Naming) say that this is equality.
-unfoldable pub same : List ℕ → List ℕ → Bool
-same [] [] = true
-same [] (b ∷ bs) = false
-same (a ∷ as₁) [] = false
-same (a ∷ as₁) (b ∷ bs) = eqb a b && same as₁ bs
 
 -- "usable or named unavailable record of the same name", the region itself among them.
 abbrev pub namesakes : List Region → List Region → Region → List Region

@@ -6,7 +6,6 @@ use mathlib.Core.Path.{_≡_}
 use lib.Dec.{ltb, leb, eqb}
 use lib.ListN.{length, getD}
 use Rattle.numbers.specs.Lists.{All, any}
-use Rattle.numbers.specs.Pairs.{pairs}
 use Rattle.numbers.specs.Range.{Range, blank}
 use Rattle.numbers.specs.Sums.{top}
 use Rattle.settle.specs.Inner.{Tree, reach}

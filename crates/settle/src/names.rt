@@ -3,7 +3,7 @@
 ghost use mathlib.Core.Path.{_≡_};
 ghost use Prim.Native.Nat.{_+_, _*_, _<_, _≤_};
 ghost use lib.ListN.{length, getD};
-ghost use Rattle.settle.specs.Settle.{same};
+ghost use Rattle.numbers.specs.Lists.{same};
 ghost use Rattle.settle.specs.Naming.{Absent, tagOf, Tagged, Listed, rivals, anyBelow, outdone};
 
 // A number made of a name's bytes.

@@ -1,13 +1,12 @@
 -- `exports::map::fundravai_map_extend_each` meets its contract: each turn is one call.
-use borrow.Author.Needs.{needs}
-use native.Mathlib.Omega.{arith}
-use Prim.Native.Nat.{_+_, _-_, _/_, _≤_, _<_}
+use Prim.Native.Nat.{_-_, _/_, _≤_}
 use mathlib.Core.Path.{_≡_, refl, _∙_}
-use lib.ListN.{length, drop, drop-of-length-le}
-use Rattle.numbers.specs.Pairs.{pairs}
-use Rattle.numbers.proofs.Pairs.{length-pairs, pair-next}
+use native.Mathlib.Omega.{arith}
+use lib.ListN.{length, drop}
+use borrow.Author.Needs.{needs}
 use Rattle.exports.specs.Each.{Extend, extending}
-use Rattle.exports.proofs.Chaining.{Going, going-begins, going-on, going-ends}
+use Rattle.numbers.specs.Pairs.{pairs}
+use Rattle.exports.proofs.Chaining.{pairs-next, pairs-end, Going, going-begins, going-on, going-ends}
 use Rattle.exports.proofs.map.fundravai_map_extend_each.Statement.{statement}
 use Rattle.exports.proofs.map.fundravai_map_extend_each.Tie as tie
 
@@ -57,7 +56,7 @@ loop-less : tie.Need-loop-less Inv-loop μ-loop
 loop-less c = omega (arith, c .before .before .before .before .before .before .before .before .before .before .before .before .loop-test .taken)
 
 loop-again : tie.Need-loop-again Inv-loop μ-loop
-loop-again c = let v = c .before .before .before .before .before .before .before .before .before .before .before .before .before .loop .inv in (omega (arith, c .before .before .before .before .before .before .before .before .before .before .before .before .loop-test .taken), omega (arith, v .1), c .before .before .before .before .before .before .before .extend .kept .1 .1 .1 .0 ∙ v .2, c .before .before .before .before .before .before .before .extend .kept .1 .1 .1 .1 .0 ∙ v .3, going-on Extend _ _ (v .4) (pair-next (c .before .before .before .before .before .before .before .before .before .before .before .before .before .before .before .before .before .before .before .before .before .before .args .extents .now) _ (let l = length-pairs (c .before .before .before .before .before .before .before .before .before .before .before .before .before .before .before .before .before .before .before .before .before .before .args .extents .now) in omega (arith, l, c .before .before .before .before .before .before .before .before .before .before .before .before .loop-test .taken))) (record { answer = _; promise = c .before .before .before .before .before .before .before .extend .ensures; map = rw (c .before .mapped .given .1) refl; count = rw (c .before .mapped .given .1) refl }))
+loop-again c = let v = c .before .before .before .before .before .before .before .before .before .before .before .before .before .loop .inv in (omega (arith, c .before .before .before .before .before .before .before .before .before .before .before .before .loop-test .taken), omega (arith, v .1), c .before .before .before .before .before .before .before .extend .kept .1 .1 .1 .0 ∙ v .2, c .before .before .before .before .before .before .before .extend .kept .1 .1 .1 .1 .0 ∙ v .3, going-on Extend _ _ (v .4) (pairs-next _ _ (c .before .before .before .before .before .before .before .before .before .before .before .before .loop-test .taken)) (record { answer = _; promise = c .before .before .before .before .before .before .before .extend .ensures; map = rw (c .before .mapped .given .1) refl; count = rw (c .before .mapped .given .1) refl }))
 
 enum-told : tie.Need-enum-told Inv-loop μ-loop
 enum-told c = search needs
@@ -66,7 +65,7 @@ loop-less-2 : tie.Need-loop-less-2 Inv-loop μ-loop
 loop-less-2 c = omega (arith, c .before .before .before .before .before .before .before .before .before .before .before .loop-test .taken)
 
 loop-again-2 : tie.Need-loop-again-2 Inv-loop μ-loop
-loop-again-2 c = let v = c .before .before .before .before .before .before .before .before .before .before .before .before .loop .inv in (omega (arith, c .before .before .before .before .before .before .before .before .before .before .before .loop-test .taken), omega (arith, v .1), c .before .before .before .before .before .before .extend .kept .1 .1 .1 .0 ∙ v .2, c .before .before .before .before .before .before .extend .kept .1 .1 .1 .1 .0 ∙ v .3, going-on Extend _ _ (v .4) (pair-next (c .before .before .before .before .before .before .before .before .before .before .before .before .before .before .before .before .before .before .before .before .before .args .extents .now) _ (let l = length-pairs (c .before .before .before .before .before .before .before .before .before .before .before .before .before .before .before .before .before .before .before .before .before .args .extents .now) in omega (arith, l, c .before .before .before .before .before .before .before .before .before .before .before .loop-test .taken))) (record { answer = _; promise = c .before .before .before .before .before .before .extend .ensures; map = rw (c .enum-told .given .1) refl; count = rw (c .enum-told .given .1) (omega arith) }))
+loop-again-2 c = let v = c .before .before .before .before .before .before .before .before .before .before .before .before .loop .inv in (omega (arith, c .before .before .before .before .before .before .before .before .before .before .before .loop-test .taken), omega (arith, v .1), c .before .before .before .before .before .before .extend .kept .1 .1 .1 .0 ∙ v .2, c .before .before .before .before .before .before .extend .kept .1 .1 .1 .1 .0 ∙ v .3, going-on Extend _ _ (v .4) (pairs-next _ _ (c .before .before .before .before .before .before .before .before .before .before .before .loop-test .taken)) (record { answer = _; promise = c .before .before .before .before .before .before .extend .ensures; map = rw (c .enum-told .given .1) refl; count = rw (c .enum-told .given .1) (omega arith) }))
 
 hand-out-requires : tie.Need-hand-out-requires Inv-loop μ-loop
 hand-out-requires c κs = search needs
@@ -78,7 +77,7 @@ same-length-2 : tie.Need-same-length-2 Inv-loop μ-loop
 same-length-2 c = c .before .before .before .before .before .before .before .loop .inv .3
 
 returns : tie.Need-returns Inv-loop μ-loop
-returns c = let l = length-pairs (c .before .before .before .before .before .before .before .before .before .before .before .before .before .before .before .before .args .extents .now) in rw (c .hand-out .ensures .map) (going-ends Extend _ _ (c .before .before .before .before .before .before .before .loop .inv .4) (drop-of-length-le (pairs _) {i = c .before .before .before .before .before .before .before .loop .i} (omega (arith, l, c .before .before .before .before .before .before .loop-test .left))))
+returns c = rw (c .hand-out .ensures .map) (going-ends Extend _ _ (c .before .before .before .before .before .before .before .loop .inv .4) (pairs-end _ _ (c .before .before .before .before .before .before .loop-test .left)))
 
 pub fundravai-map-extend-each-spec : {M : Type 1} → statement M
 fundravai-map-extend-each-spec =

@@ -1,6 +1,6 @@
 -- `sample::words::kept` meets its contract: each step is the part that its name says.
 use borrow.Author.Needs.{needs}
-use Rattle.sample.specs.Words.{same}
+use Rattle.numbers.specs.Lists.{same}
 use Rattle.sample.proofs.words.kept.Statement.{statement}
 use Rattle.sample.proofs.words.kept.Tie as tie
 
