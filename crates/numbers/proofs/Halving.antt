@@ -74,11 +74,12 @@ module _ {ss : List ℕ} {count p lo n : ℕ} (g : Halving ss count p lo n) wher
         above = λ r j a b. g .above r j (omega (arith, a)) b;
       }
 
--- ---- a step shifted by one bit or by none
+-- ---- a step, taken or not
 
 module _ (b : Bool) where
   pub one-bit : boolByte b < 64
   one-bit = cases b (λ e. rw e (omega arith)) (λ e. rw e (omega arith))
 
-  pub advanced : (step more : ℕ) → step < 2 ^ 64 → more < 2 ^ 64 → (more + step) % 2 ^ 64 ≡ step * 2 ^ boolByte b % 2 ^ 64 → more ≡ cond b step 0
-  advanced step more k m e = cases b (λ t. let f = rw t at e in rw t (omega (arith, f))) (λ t. let f = rw t at e in rw t (omega (arith, f)))
+  -- it is shifted by one bit or by none
+  pub shifted : (step : ℕ) → step < 2 ^ 63 → (step * 2 ^ boolByte b % 2 ^ 64 ≡ step + cond b step 0) × (cond b step 0 ≤ step)
+  shifted step h = cases b (λ t. rw t (omega arith, omega arith)) (λ t. rw t (omega arith, omega arith))

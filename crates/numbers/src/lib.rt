@@ -1,6 +1,5 @@
 // What the language lacks and several crates want: sums and differences that stop, a sum held against a
 // limit, the step of a halving search, and the test for a power of two.
-use std::num::wrapping_sub_usize;
 ghost use mathlib.Core.Bool.{cond};
 ghost use mathlib.Core.Path.{_≡_};
 ghost use Prim.Native.Nat.{_+_, _-_};
@@ -10,6 +9,8 @@ ghost use Rattle.numbers.specs.Powers.{isPowerOfTwo};
 
 // The greatest place, 2^64 - 1.
 const TOP: usize = 0xffff_ffff_ffff_ffff;
+
+const HALF: usize = 0x7fff_ffff_ffff_ffff;
 
 // a + b, or 2^64 - 1 where the sum passes it.
 pub fn add_stop(a: u64, b: u64) -> u64
@@ -51,14 +52,28 @@ pub fn is_power_of_two(n: u64) -> bool
     n & (n - 1) == 0
 }
 
-// lo + step where up, else lo, or 2^64 - 1 where the sum passes it. By a shift and not by a branch, which
-// a search would guess wrong every other time.
+fn step_or_stop(lo: usize, step: usize, up: bool) -> usize
+    ensures { λ r. ⌜ r ≡ stop (lo + cond up step 0) ⌝ }
+{
+    if !up {
+        return lo;
+    }
+    if TOP - lo < step {
+        return TOP;
+    }
+    lo + step
+}
+
+// lo + step where up, else lo, or 2^64 - 1 where the sum passes it. A search would guess a branch by up
+// wrong every other time, so the step is shifted; what is far too large is asked first, and never is.
 pub fn advance(lo: usize, step: usize, up: bool) -> usize
     ensures { λ r. ⌜ r ≡ stop (lo + cond up step 0) ⌝ }
 {
-    let more = wrapping_sub_usize(step << (up as usize), step);
-    if TOP - lo < more {
-        return TOP;
+    if lo > HALF {
+        return step_or_stop(lo, step, up);
     }
-    lo + more
+    if step > HALF {
+        return step_or_stop(lo, step, up);
+    }
+    lo + ((step << (up as usize)) - step)
 }
