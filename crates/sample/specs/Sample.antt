@@ -31,3 +31,8 @@ pub record Filled (text entry exit : List ℕ) (n : ℕ) : Type 0 where
   pub count : n ≡ min (length (numbersIn text)) (length entry)
   pub slots : exit ≡ take n (numbersIn text) ++ drop n entry
   pub inside : n ≤ length exit
+
+-- The same of a text that is read: no contract can say which.
+pub record Read (entry exit : List ℕ) (n : ℕ) : Type 0 where
+  pub text : List ℕ
+  pub filled : Filled text entry exit n

@@ -1,4 +1,5 @@
 // The numbers of a text, for the programs that replay stored answers of the Rust.
+pub mod report;
 mod tally;
 pub mod words;
 
