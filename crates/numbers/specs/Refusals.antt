@@ -15,7 +15,7 @@ unfoldable pub first : List ℕ → ℕ
 first [] = 0
 first (n ∷ ns) = cond (eqb n 0) (first ns) n
 
--- What a call answers: a value, or "its number alone". No refusal, one of 0 neither, is an acceptance.
+-- What a call answers: a value, or "its number alone". No refusal is an acceptance, not even one of 0.
 pub data Answer (A : Type 0) : Type 0 where
   accepted : A → Answer A
   refused : ℕ → Answer A
