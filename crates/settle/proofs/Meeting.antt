@@ -148,13 +148,6 @@ module _ (ps : List Piece) (order facts : List Range) (o : Ordered ps order fact
   pieces-end : All (λ (x : Piece). endOf (x .range) ≤ top) ps
   pieces-end = all-of (λ (x : Piece). endOf (x .range) ≤ top) ps noPiece (λ k h. end-top (getD ps k noPiece .range))
 
-  pub order-places : All (λ (p : Range). p .len < length ps) order
-  order-places =
-      rw (o .sort)
-      (all-sorted (λ (p : Range). p .len < length ps) (o .starts)
-      (all-of (λ (p : Range). p .len < length ps) (o .starts) blank
-      (λ k h. let e = o .size in let l : k < length ps = omega arith in rw (o .start k l) l)))
-
   items-early : InTurn Early (itemsOf order facts)
   items-early = early facts order (rw (o .sort) (sorted-ascending (o .starts))) (starts-all (λ (x : Item). x .end ≤ top) pieces-end)
 

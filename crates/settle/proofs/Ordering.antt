@@ -99,7 +99,7 @@ module _ (u v first n : ℕ) (counts rs own own-rs : List ℕ) (z : Sized u coun
         let p = pieces-length u seqs counts (pairs rs) lens names 0 (z .counts-in) (z .ranges-in) in
         laid-more ours theirs 0 first n s₀ s₁ s₂ (omega arith) a b
 
-    pub both-length : length (ours ++ theirs) ≡ n
+    both-length : length (ours ++ theirs) ≡ n
     both-length =
         let p = pieces-length u seqs counts (pairs rs) lens names 0 (z .counts-in) (z .ranges-in) in
         let q = pieces-length v own-seqs own (pairs own-rs) own-lens own-names u (z′ .counts-in) (z′ .ranges-in) in

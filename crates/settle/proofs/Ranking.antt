@@ -103,9 +103,6 @@ module _ {keys : List Range} {ranks : List ℕ} {m rank t : ℕ} (o : Ascending 
     pub walking-place : (p : Range) → p ≡ getD keys t blank → p .len < length ranks
     walking-place p e = let q = all-at (λ (q : Range). q .len < m) keys t blank (k .places) h in let f = ap (λ (q : Range). q .len) e in omega (arith, g .size)
 
-    pub walking-rank : rank < length keys
-    walking-rank = omega (arith, g .behind)
-
     -- the rank that the key t gets, whichever it is
     on : (r : ℕ) → r ≤ t
         → ((s : ℕ) → s < r → number s < number r)

@@ -7,7 +7,6 @@ use native.Mathlib.Omega.{arith}
 use lib.ListN.{length, getD, take, drop, replicate, length-drop, length-replicate, getD-replicate}
 use lib.Seq.{take-all}
 use Rattle.numbers.specs.Pairs.{pairs}
-use Rattle.numbers.specs.Range.{Range}
 use Rattle.settle.specs.Inner.{Sized, Struck}
 use Rattle.settle.specs.Laying.{Ordered}
 use Rattle.settle.specs.Ranking.{Ranks}
@@ -15,8 +14,8 @@ use Rattle.settle.specs.Regions.{Lent, pieces, piecesFrom, regionsOf}
 use Rattle.settle.specs.Sweeping.{Ready, SweptBoth, itemsOf}
 use Rattle.settle.specs.declared.sweep.Item.{Item}
 use Rattle.numbers.proofs.Lists.{all-imp}
-use Rattle.numbers.proofs.Pairs.{length-pairs, pairs-take, pairs-drop}
-use Rattle.settle.proofs.Meeting.{all-seqs, items-owner, order-places, swept-overlapped, swept-superseded}
+use Rattle.numbers.proofs.Pairs.{pairs-take, pairs-drop}
+use Rattle.settle.proofs.Meeting.{all-seqs, items-owner, swept-overlapped, swept-superseded}
 
 -- the two parts of scratch, as the code cuts them
 module _ (s : List ℕ) (n : ℕ) where
@@ -45,19 +44,15 @@ module _ (us un : Lent) (z : Sized (us .count) (us .counts) (us .ranges)) (z′ 
   o′ : Ordered (pieces (regionsOf us) ++ piecesFrom (us .count) (regionsOf un)) (pairs (orderPart s n)) (pairs (factsPart s n))
   o′ = rw (order-part s n, facts-part s n) o
 
-  pub strike-ready : length (pieces (regionsOf us) ++ piecesFrom (us .count) (regionsOf un)) ≡ n → length s ≡ 4 * n → length ranks ≡ 2048
+  pub strike-ready : length ranks ≡ 2048
       → (over under : List Bool) → over ≡ replicate 1024 false → under ≡ replicate 1024 false
       → Ready (pairs (orderPart s n)) (pairs (factsPart s n)) (us .count) ranks (length over) (length under)
-  strike-ready l m k over under a b =
-      let p = length-pairs s in
-      let d : length (pairs (factsPart s n)) ≡ n = ap length (facts-part s n) ∙ length-drop n (pairs s) ∙ omega arith in
+  strike-ready k over under a b =
       let q = all-seqs us un e e′ (pairs (orderPart s n)) (pairs (factsPart s n)) ranks o′ r in
       let f = length-replicate {A = Bool} 1024 false in
       let g = ap length a in
       let h = ap length b in
       record {
-        places = all-imp (λ (x : Range). x .len < length (pieces (regionsOf us) ++ piecesFrom (us .count) (regionsOf un))) (λ (x : Range). x .len < length (pairs (factsPart s n)))
-            (λ x i. omega arith) (pairs (orderPart s n)) (order-places (pieces (regionsOf us) ++ piecesFrom (us .count) (regionsOf un)) (pairs (orderPart s n)) (pairs (factsPart s n)) o′);
         owners = all-imp (λ (x : Item). x .owner < us .count + un .count) (λ (x : Item). (x .owner < length ranks) × (getD ranks (x .owner) 0 < 2048))
             (λ x i. (omega (arith, z .few, z′ .few), let j = r .small (x .owner) (omega arith) in omega (arith, z .few, z′ .few)))
             (itemsOf (pairs (orderPart s n)) (pairs (factsPart s n))) (items-owner us un e e′ (pairs (orderPart s n)) (pairs (factsPart s n)) ranks o′ r);

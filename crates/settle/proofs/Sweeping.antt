@@ -22,9 +22,6 @@ use Rattle.settle.proofs.Tree.{tree-blank, reach-blank}
 
 -- ---- what is read
 
-pub read-place : (p q : Range) (n : ℕ) → p ≡ q → q .len < n → p .len < n
-read-place p q n e h = let f = ap (λ (q : Range). q .len) e in omega arith
-
 pub read-at : (order facts : List Range) (t : ℕ) (p f : Range) → t < length order → p ≡ getD order t blank → f ≡ getD facts (p .len) blank
     → itemOf (p .offset) (f .offset) (f .len) ≡ getD (itemsOf order facts) t noItem
 read-at order facts t p f h e d =
@@ -37,22 +34,13 @@ unfolding walk
 walk-length true l = length-reverse (map mirror l) ∙ length-map l mirror
 walk-length false l = refl
 
-module _ (order : List ℕ) (facts : List Range) (t : ℕ) (back : Bool) (h : t < length (pairs order)) (a : All (λ (p : Range). p .len < length facts) (pairs order)) where
+module _ (order : List ℕ) (facts : List Range) (t : ℕ) (back : Bool) (h : t < length (pairs order)) where
   pub next-forth : back ≡ false → (x : Item) → x ≡ getD (itemsOf (pairs order) facts) t noItem → x ≡ getD (walk back (itemsOf (pairs order) facts)) t noItem
   unfolding walk
   next-forth b x e = simp b e
 
-  pub next-here : (t < length (pairs order)) × (getD (pairs order) t blank .len < length facts)
-  next-here = (h, all-at (λ (p : Range). p .len < length facts) (pairs order) t blank a h)
-
   abbrev last : ℕ
   last = length order / 2 - 1 - t
-
-  pub next-there : (last < length (pairs order)) × (getD (pairs order) last blank .len < length facts)
-  next-there =
-      let l = length-pairs order in
-      let i : last < length (pairs order) = omega arith in
-      (i, all-at (λ (p : Range). p .len < length facts) (pairs order) last blank a i)
 
   pub next-back : back ≡ true → (x : Item) → x ≡ getD (itemsOf (pairs order) facts) last noItem → mirror x ≡ getD (walk back (itemsOf (pairs order) facts)) t noItem
   unfolding walk

@@ -68,9 +68,8 @@ pub record Arrived (x : Item) (u rank : ℕ) (held₀ held own₀ own : List ℕ
   pub under-size : length under ≡ length under₀
   pub under-marks : (i : ℕ) → i < u → getD under i false ≡ (getD under₀ i false || (eqb (x .owner) i && ltb (x .start) (x .end) && reach own₀ (rank + 1) (x .start)))
 
--- What a pass asks: places and ranks are inside, and every usable region has its mark.
+-- What a pass asks: owners and ranks are inside, and every usable region has its mark.
 pub record Ready (order facts : List Range) (u : ℕ) (ranks : List ℕ) (over under : ℕ) : Type 0 where
-  pub places : All (λ (p : Range). p .len < length facts) order
   pub owners : All (λ (x : Item). (x .owner < length ranks) × (getD ranks (x .owner) 0 < 2048)) (itemsOf order facts)
   pub over-room : u ≤ over
   pub under-room : u ≤ under

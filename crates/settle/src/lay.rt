@@ -1,8 +1,9 @@
 // The ranges of all records in scratch, for n ranges: the pair k is the start of the range k with k
 // itself, to be sorted; the pair n + k is its end with the place of its record.
-use crate::pair::get;
-use crate::pair::put;
 use numbers::add_stop;
+use sort::pair::Pair;
+use sort::pair::pair_at;
+use sort::pair::put_pair;
 ghost use mathlib.Core.Path.{_≡_};
 ghost use mathlib.Core.List.{List, map};
 ghost use Prim.Native.Nat.{ℕ, _+_, _≤_};
@@ -20,13 +21,22 @@ fn lay(ranges: &[u64], at: usize, count: usize, owner: usize, first: usize, n: u
 {
     let mut k = 0;
     while k < count {
-        let range = get(ranges, at + k);
-        put(s, first + k, range.left, (first + k) as u64);
-        put(
+        let range = pair_at(ranges, at + k);
+        put_pair(
+            s,
+            first + k,
+            Pair {
+                left: range.left,
+                right: (first + k) as u64,
+            },
+        );
+        put_pair(
             s,
             n + (first + k),
-            add_stop(range.left, range.right),
-            owner as u64,
+            Pair {
+                left: add_stop(range.left, range.right),
+                right: owner as u64,
+            },
         );
         k += 1;
     }

@@ -4,7 +4,6 @@ mod counts;
 mod lay;
 mod marks;
 mod names;
-mod pair;
 mod ranks;
 mod struck;
 mod sweep;

@@ -1,7 +1,8 @@
 // The rank of every record: how many records have a lower sequence number. There are at most 2,048
 // records, usable and unavailable together, so ranks make a small table where numbers do not.
-use crate::pair::get;
-use crate::pair::put;
+use sort::pair::Pair;
+use sort::pair::pair_at;
+use sort::pair::put_pair;
 use sort::sort_pairs;
 ghost use mathlib.Core.Path.{_≡_};
 ghost use mathlib.Core.Bool.{false};
@@ -19,7 +20,14 @@ fn key(seqs: &[u64], count: usize, first: usize, keys: &mut [u64])
 {
     let mut i = 0;
     while i < count {
-        put(keys, first + i, seqs[i], (first + i) as u64);
+        put_pair(
+            keys,
+            first + i,
+            Pair {
+                left: seqs[i],
+                right: (first + i) as u64,
+            },
+        );
         i += 1;
     }
 }
@@ -33,8 +41,8 @@ fn assign(keys: &[u64], ranks: &mut [usize])
     let mut rank = 0;
     let mut t = 0;
     while t < n {
-        let next = get(keys, t);
-        if get(keys, rank).left != next.left {
+        let next = pair_at(keys, t);
+        if pair_at(keys, rank).left != next.left {
             rank = t;
         }
         ranks[next.right as usize] = rank;

@@ -1,16 +1,14 @@
 // Which regions have a range that meets one of an equal or higher rank, by one pass over the ranges
 // in the order of their starts and one back.
-use crate::pair::get;
 use crate::table::above;
 use crate::table::from;
 use crate::table::raise;
+use sort::pair::pair_at;
 ghost use mathlib.Core.Path.{_≡_};
 ghost use mathlib.Core.Bool.{false, _||_};
 ghost use Prim.Native.Nat.{_+_, _<_, _≤_};
 ghost use lib.ListN.{length, getD, set};
-ghost use Rattle.numbers.specs.Lists.{All};
 ghost use Rattle.numbers.specs.Pairs.{pairs};
-ghost use Rattle.numbers.specs.Range.{Range, blank};
 ghost use Rattle.settle.specs.Inner.{Tree, reach};
 ghost use Rattle.settle.specs.Sweeping.{itemsOf, walk, noItem, Arrived, Ready, Swept};
 
@@ -23,11 +21,11 @@ pub struct Item {
 
 // The range t in the order of the starts.
 fn read(order: &[u64], facts: &[u64], t: usize) -> Item
-    requires { ⌜ (t < length (pairs (now order))) × (getD (pairs (now order)) t blank .len < length (pairs (now facts))) ⌝ }
+    requires { ⌜ t < length (pairs (now order)) ⌝ }
     ensures { λ r. ⌜ r ≡ getD (itemsOf (pairs (now (order .entry))) (pairs (now (facts .entry)))) t noItem ⌝ }
 {
-    let next = get(order, t);
-    let fact = get(facts, next.right as usize);
+    let next = pair_at(order, t);
+    let fact = pair_at(facts, next.right as usize);
     Item {
         start: next.left,
         end: fact.left,
@@ -38,7 +36,7 @@ fn read(order: &[u64], facts: &[u64], t: usize) -> Item
 // The range t on the way, forward or back. On the way back the byte b counts as 2^64 - 1 - b, so
 // that a range starts where it ended.
 fn next(order: &[u64], facts: &[u64], t: usize, back: bool) -> Item
-    requires { ⌜ (t < length (pairs (now order))) × All (λ (p : Range). p .len < length (pairs (now facts))) (pairs (now order)) ⌝ }
+    requires { ⌜ t < length (pairs (now order)) ⌝ }
     ensures { λ r. ⌜ r ≡ getD (walk back (itemsOf (pairs (now (order .entry))) (pairs (now (facts .entry))))) t noItem ⌝ }
 {
     if back {

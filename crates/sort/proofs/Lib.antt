@@ -1,4 +1,5 @@
 pub mod Laws
+mod Places
 mod Passes
 mod Partition
 mod Insertion

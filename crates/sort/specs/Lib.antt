@@ -1,2 +1,3 @@
 pub mod Sort
+pub mod Places
 pub mod Inner

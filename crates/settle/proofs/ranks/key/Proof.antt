@@ -15,20 +15,20 @@ abbrev μ-loop : tie.MeasureT-loop
 loop-holds : tie.Need-loop-holds Inv-loop μ-loop
 loop-holds c = keying-begins _ _ _ _ (c .before .before .pre .0) (c .before .before .pre .1)
 
-add-put : tie.Need-add-put Inv-loop μ-loop
-add-put c = omega (arith, pair-in _ _ (keying-in (c .before .before .loop .inv) (c .before .loop-test .taken)))
+add-put-pair : tie.Need-add-put-pair Inv-loop μ-loop
+add-put-pair c = omega (arith, pair-in _ _ (keying-in (c .before .before .loop .inv) (c .before .loop-test .taken)))
 
-mul-put : tie.Need-mul-put Inv-loop μ-loop
-mul-put c = let g = c .before .before .loop .inv in let h = c .before .loop-test .taken in omega (arith, g .enough, g .upto)
+mul-t11 : tie.Need-mul-t11 Inv-loop μ-loop
+mul-t11 c = let g = c .before .before .loop .inv in let h = c .before .loop-test .taken in omega (arith, g .enough, g .upto)
 
-shared-slice-read-put : tie.Need-shared-slice-read-put Inv-loop μ-loop
-shared-slice-read-put c = let g = c .before .before .before .loop .inv in let h = c .before .before .loop-test .taken in omega (arith, g .enough, g .upto)
+shared-slice-read-t13 : tie.Need-shared-slice-read-t13 Inv-loop μ-loop
+shared-slice-read-t13 c = let g = c .before .before .before .loop .inv in let h = c .before .before .loop-test .taken in omega (arith, g .enough, g .upto)
 
-add-put-2 : tie.Need-add-put-2 Inv-loop μ-loop
-add-put-2 c = omega (arith, pair-in _ _ (keying-in (c .before .before .before .loop .inv) (c .before .before .loop-test .taken)))
+add-t14 : tie.Need-add-t14 Inv-loop μ-loop
+add-t14 c = omega (arith, pair-in _ _ (keying-in (c .before .before .before .loop .inv) (c .before .before .loop-test .taken)))
 
-put-requires : tie.Need-put-requires Inv-loop μ-loop
-put-requires c κs = keying-in (c .before .before .before .loop .inv) (c .before .before .loop-test .taken)
+put-pair-requires : tie.Need-put-pair-requires Inv-loop μ-loop
+put-pair-requires c κs = tt
 
 add-i : tie.Need-add-i Inv-loop μ-loop
 add-i c = let g = c .before .before .before .before .before .before .loop .inv in let h = c .before .before .before .before .before .loop-test .taken in omega (arith, g .enough, g .upto)
@@ -37,7 +37,7 @@ loop-less : tie.Need-loop-less Inv-loop μ-loop
 loop-less c = omega arith
 
 loop-again : tie.Need-loop-again Inv-loop μ-loop
-loop-again c = keying-on (c .before .before .before .before .before .before .loop .inv) _ (c .before .before .before .before .before .loop-test .taken) (c .before .before .put .ensures) (c .before .before .put .kept .0)
+loop-again c = keying-on (c .before .before .before .before .before .before .loop .inv) _ (c .before .before .before .before .before .loop-test .taken) (c .before .before .put-pair .ensures .stored) (c .before .before .put-pair .kept .0)
 
 same-length : tie.Need-same-length Inv-loop μ-loop
 same-length c = c .before .loop .inv .size
@@ -52,11 +52,11 @@ key-spec =
     Inv-loop
     μ-loop
     loop-holds
-    add-put
-    mul-put
-    shared-slice-read-put
-    add-put-2
-    put-requires
+    add-put-pair
+    mul-t11
+    shared-slice-read-t13
+    add-t14
+    put-pair-requires
     add-i
     loop-less
     loop-again

@@ -6,7 +6,6 @@ use native.Mathlib.Omega.{arith}
 use lib.ListN.{length-replicate}
 use borrow.Author.Needs.{needs}
 use Rattle.settle.specs.Regions.{lent}
-use Rattle.settle.proofs.Ordering.{both-length}
 use Rattle.settle.proofs.Striking.{strike-ready, strike-marks}
 use Rattle.settle.proofs.struck.strike.Statement.{statement}
 use Rattle.settle.proofs.struck.strike.Tie as tie
@@ -52,9 +51,8 @@ slice-aggregate-sweep-both c = search needs
 
 sweep-both-requires : tie.Need-sweep-both-requires
 sweep-both-requires c κs = let p = c .before .before .before .before .before .before .before .before .before .before .before .before .before .before .before .before .before .before .before .before .before .before .pre in
-    strike-ready (lent _ _ _ _ [] []) (lent _ _ _ _ [] []) (p .0 .0) (p .0 .1) (p .1 .0 .0) (p .1 .0 .1) _ _ _ (c .before .before .before .before .before .before .before .before .lay-out .ensures _ [] [] _ [] []) (c .before .before .before .before .before .before .before .before .before .before .before .rank-all .ensures)
-    (both-length _ _ _ _ _ _ _ _ (p .0 .0) (p .0 .1) (p .1 .1 .0 .0) (p .1 .1 .0 .1) _ [] [] _ [] [])
-    (c .before .before .before .before .before .before .before .before .lay-out .kept .1 .1 .1 .1 .1 .1 .1 .1 .0 ∙ p .1 .1 .0 .2) (c .before .before .before .before .before .before .before .before .before .before .before .rank-all .kept .1 .1 .1 .1 .0 ∙ length-replicate {A = ℕ} 2048 0) _ _ (p .1 .1 .1 .0) (p .1 .1 .1 .1)
+    strike-ready (lent _ _ _ _ [] []) (lent _ _ _ _ [] []) (p .0 .0) (p .0 .1) (p .1 .0 .0) (p .1 .0 .1) (c .before .before .before .before .before .before .before .before .lay-out .last .1 .1 .1 .1 .1 .1 .1 .1 .0) (c .before .before .before .before .before .before .before .before .before .before .before .before .before .before .before .before .before .before .before .before .before .before .args .n) _ (c .before .before .before .before .before .before .before .before .lay-out .ensures _ [] [] _ [] []) (c .before .before .before .before .before .before .before .before .before .before .before .rank-all .ensures)
+    (c .before .before .before .before .before .before .before .before .before .before .before .rank-all .kept .1 .1 .1 .1 .0 ∙ length-replicate {A = ℕ} 2048 0) _ _ (p .1 .1 .1 .0) (p .1 .1 .1 .1)
 
 same-length : tie.Need-same-length
 same-length c = search needs

@@ -1,18 +1,17 @@
 -- `settle::sweep::read` meets its contract: the pair's place has the end and the owner.
-use borrow.Author.Needs.{needs}
 use Rattle.numbers.specs.Pairs.{pairs}
-use Rattle.settle.proofs.Sweeping.{read-place, read-at}
+use Rattle.settle.proofs.Sweeping.{read-at}
 use Rattle.settle.proofs.sweep.read.Statement.{statement}
 use Rattle.settle.proofs.sweep.read.Tie as tie
 
-get-requires : tie.Need-get-requires
-get-requires c κs = search needs
+pair-at-requires : tie.Need-pair-at-requires
+pair-at-requires c κs = tt
 
-get-requires-2 : tie.Need-get-requires-2
-get-requires-2 c κs = read-place _ _ _ (c .get .ensures) (c .before .before .before .pre .1)
+pair-at-requires-2 : tie.Need-pair-at-requires-2
+pair-at-requires-2 c κs = tt
 
 returns : tie.Need-returns
-returns c = read-at (pairs _) (pairs _) _ _ _ (c .before .before .before .before .pre .0) (c .before .get .ensures) (c .get2 .ensures)
+returns c = read-at (pairs _) (pairs _) _ _ _ (c .before .before .before .before .pre) (c .before .pair-at .ensures) (c .pair-at2 .ensures)
 
 pub read-spec : {M : Type 1} → statement M
-read-spec = tie.close (tie.spec get-requires get-requires-2 returns)
+read-spec = tie.close (tie.spec pair-at-requires pair-at-requires-2 returns)

@@ -19,7 +19,7 @@ loop-holds : tie.Need-loop-holds Inv-loop μ-loop
 loop-holds c = sweep-begins _ _ _ _ _
 
 next-requires : tie.Need-next-requires Inv-loop μ-loop
-next-requires c κs = (half-in _ _ _ refl (c .loop-test .taken), c .before .before .before .before .before .before .before .pre .places)
+next-requires c κs = half-in _ _ _ refl (c .loop-test .taken)
 
 slice-aggregate-arrive : tie.Need-slice-aggregate-arrive Inv-loop μ-loop
 slice-aggregate-arrive c = sym (c .before .before .before .loop .inv .held-tree .size)
