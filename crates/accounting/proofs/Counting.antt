@@ -9,11 +9,11 @@ use lib.Seq.{drop-drop}
 use borrow.Author.Tests.{eq-eqb, ne-eqb}
 use Rattle.accounting.specs.Entries.{Usage, Counts, usage, usages, readyUsages, addedLen, addAll, noTags, differ}
 use Rattle.accounting.specs.Inner.{Sought, inserted}
-use Rattle.accounting.specs.Row.{blank, addUsage}
+use Rattle.tagspace.specs.Row.{blank, addUsage}
 use Rattle.accounting.specs.Table.{Table, InTagOrder, Valid, Posts, accountsOf, tableOf, onRow}
 use Rattle.accounting.specs.declared.Accounting.{Accounting}
 use Rattle.accounting.specs.declared.Posted.{Posted}
-use Rattle.accounting.specs.declared.TagSpace.{TagSpace}
+use Rattle.tagspace.specs.declared.TagSpace.{TagSpace}
 use Rattle.accounting.specs.declared.table.Spot.{Spot}
 use Rattle.accounting.proofs.Handing.{handed-fit, handed-full, posts-known, posts-unknown, on-row-order}
 use Rattle.accounting.proofs.Rows.{put-more}

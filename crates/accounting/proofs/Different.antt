@@ -9,10 +9,10 @@ use lib.Dec.{eqb}
 use lib.ListN.{length}
 use borrow.Author.Tests.{eqb-true, eq-eqb}
 use Rattle.accounting.specs.Entries.{Usage, Counts, addAll, noTags}
-use Rattle.accounting.specs.Row.{addUsage}
+use Rattle.tagspace.specs.Row.{addUsage}
 use Rattle.accounting.specs.Table.{Table, InTagOrder, HasRow, accountsOf, onRow, handed}
 use Rattle.accounting.specs.declared.Posted.{Posted}
-use Rattle.accounting.specs.declared.TagSpace.{TagSpace}
+use Rattle.tagspace.specs.declared.TagSpace.{TagSpace}
 use Rattle.numbers.specs.Lists.{Any, any}
 use Rattle.accounting.proofs.Handing.{handed-fit, handed-full, on-row-order}
 use Rattle.accounting.proofs.Words.{rows-made, rows-kept, none-else, others-have, tag-has}

@@ -9,13 +9,13 @@ use lib.ListN.{length, getD, take, drop, set, replicate, length-append, length-t
 use lib.Seq.{set-append-left, set-getD}
 use borrow.Author.Tests.{lt-ltb, le-ltb, eq-eqb, ne-eqb}
 use Rattle.accounting.specs.Inner.{Sought, posted, shifted, inserted}
-use Rattle.accounting.specs.Row.{blank, allows, fits}
+use Rattle.tagspace.specs.Row.{blank, allows, fits}
 use Rattle.accounting.specs.Table.{Table, InTagOrder, Valid, Posts, Asks, accountsOf, tableOf, rowOf, put, onRow, withTotal, same, handed, asked}
 use Rattle.accounting.specs.declared.Accounting.{Accounting}
 use Rattle.accounting.specs.declared.Posted.{Posted}
-use Rattle.accounting.specs.declared.Posting.{Posting}
-use Rattle.accounting.specs.declared.Posting.the-variants.{AddUsage, RemoveUsage, Reserve, Unreserve, SetCap}
-use Rattle.accounting.specs.declared.TagSpace.{TagSpace}
+use Rattle.accounting.specs.declared.posting.Posting.{Posting}
+use Rattle.accounting.specs.declared.posting.Posting.the-variants.{AddUsage, RemoveUsage, Reserve, Unreserve, SetCap}
+use Rattle.tagspace.specs.declared.TagSpace.{TagSpace}
 use Rattle.accounting.specs.declared.table.Spot.{Spot}
 use Rattle.accounting.proofs.Rows.{row-known, put-known, row-unknown, put-unknown, put-order}
 use Rattle.accounting.proofs.Shifting.{shifted-blanks}

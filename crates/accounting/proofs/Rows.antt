@@ -8,9 +8,9 @@ use lib.ListN.{length, getD, take, drop, set, take-append-drop}
 use lib.Seq.{set-split, split-at}
 use borrow.Author.Tests.{lt-ltb, le-ltb, eq-eqb, ne-eqb}
 use Rattle.accounting.specs.Inner.{Lower, Higher}
-use Rattle.accounting.specs.Row.{blank}
+use Rattle.tagspace.specs.Row.{blank}
 use Rattle.accounting.specs.Table.{InTagOrder, rowOf, put}
-use Rattle.accounting.specs.declared.TagSpace.{TagSpace}
+use Rattle.tagspace.specs.declared.TagSpace.{TagSpace}
 use Rattle.numbers.proofs.Cases.{by-lt, by-eq}
 use Rattle.numbers.proofs.Lists.{all-at, all-imp}
 

@@ -7,7 +7,7 @@ use lib.ListN.{length, getD, take, drop, set, replicate, take-append-drop, lengt
 use lib.Seq.{length-take-le, take-suc, drop-cons, append-snoc, set-at, take-at, take-append-le, drop-append-le, drop-append-add, getD-take}
 use Rattle.accounting.specs.Inner.{shifted}
 use Rattle.accounting.specs.declared.Accounting.{Accounting}
-use Rattle.accounting.specs.declared.TagSpace.{TagSpace}
+use Rattle.tagspace.specs.declared.TagSpace.{TagSpace}
 
 -- a store at the end of a front part
 set-front : {A : Type 0} (l more : List A) (i : ℕ) (v : A) → i < length l → set (take (suc i) l ++ more) i v ≡ take i l ++ (v ∷ more)

@@ -7,10 +7,10 @@ use native.Mathlib.Omega.{arith}
 use lib.ListN.{length, getD, take, drop, replicate, length-drop, List·getD-map, List·getD-eq-default}
 use lib.Seq.{take-append-seam, getD-take, getD-drop, length-take-le}
 use Rattle.accounting.specs.Inner.{Lower, Higher, Sought, tagsOf}
-use Rattle.accounting.specs.Row.{blank}
+use Rattle.tagspace.specs.Row.{blank}
 use Rattle.accounting.specs.Table.{Table, InTagOrder, Valid, accountsOf, tableOf}
 use Rattle.accounting.specs.declared.Accounting.{Accounting}
-use Rattle.accounting.specs.declared.TagSpace.{TagSpace}
+use Rattle.tagspace.specs.declared.TagSpace.{TagSpace}
 use Rattle.numbers.specs.Search.{Rising, Found}
 use Rattle.accounting.proofs.Rows.{order-front}
 use Rattle.numbers.proofs.Cases.{clash, by-eq}

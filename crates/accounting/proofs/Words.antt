@@ -9,9 +9,9 @@ use lib.Dec.{eqb}
 use lib.ListN.{length}
 use borrow.Author.Tests.{eq-eqb, ne-eqb}
 use Rattle.accounting.specs.Entries.{Usage, addAll, noTags, ofTag}
-use Rattle.accounting.specs.Row.{blank, addUsage, removeUsage}
+use Rattle.tagspace.specs.Row.{blank, addUsage, removeUsage}
 use Rattle.accounting.specs.Table.{Table, InTagOrder, HasRow, accountsOf, rowOf, put, onRow, same, handed}
-use Rattle.accounting.specs.declared.TagSpace.{TagSpace}
+use Rattle.tagspace.specs.declared.TagSpace.{TagSpace}
 use Rattle.numbers.specs.Lists.{All, Any}
 use Rattle.numbers.specs.Sums.{top, stop, sum}
 use Rattle.accounting.proofs.Handing.{KeepsTag, handed-fit, handed-full}

@@ -1,4 +1,4 @@
--- Document 01, space.rs's `from_usage` and `from_entries`, and `extent_len`: the accounts of a region table.
+-- Document 01, space.rs's `from_usage` and `from_entries`: the accounts of a region table.
 use Prim.Native.Nat.{ℕ, _+_, _*_}
 use mathlib.Core.Bool.{Bool, cond, not, _||_}
 use mathlib.Core.List.{List, [], _∷_}
@@ -6,21 +6,12 @@ use mathlib.Core.Option.{Option, none, some}
 use mathlib.Core.Path.{_≡_}
 use lib.Dec.{ltb, eqb}
 use lib.ListN.{length, getD, drop}
-use Rattle.accounting.specs.Row.{addUsage}
+use Rattle.tagspace.specs.Row.{addUsage}
 use Rattle.accounting.specs.Table.{Table, Valid, accountsOf, onRow, handed}
 use Rattle.accounting.specs.declared.Accounting.{Accounting}
-use Rattle.accounting.specs.declared.ExtentLen.{ExtentLen}
-use Rattle.accounting.specs.declared.ExtentLen.the-variants.{Bytes, Nothing}
 use Rattle.accounting.specs.declared.Posted.{Posted}
 use Rattle.numbers.specs.Sums.{top}
-
--- "`extent_len` is two blocks and the data size, none past 2^64 - 1"
-unfoldable pub extentLen : ℕ → ℕ → Option ℕ
-extentLen size block = cond (ltb top (2 * block + size)) none (some (2 * block + size))
-
-abbrev pub lenOf : ExtentLen → Option ℕ
-lenOf (Bytes n) = some n
-lenOf Nothing = none
+use Rattle.tagspace.specs.Extent.{extentLen}
 
 -- A number, or another one where there is none.
 abbrev pub orElse : ℕ → Option ℕ → ℕ

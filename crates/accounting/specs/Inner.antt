@@ -5,13 +5,13 @@ use mathlib.Core.List.{List, _∷_, _++_, map}
 use mathlib.Core.Path.{_≡_}
 use lib.Dec.{ltb, eqb}
 use lib.ListN.{getD, take, drop}
-use Rattle.accounting.specs.Row.{blank, addUsage, removeUsage, reserve, unreserve, setCap}
+use Rattle.tagspace.specs.Row.{blank, addUsage, removeUsage, reserve, unreserve, setCap}
 use Rattle.accounting.specs.Table.{Valid, tableOf}
 use Rattle.accounting.specs.declared.Accounting.{Accounting}
 use Rattle.accounting.specs.declared.Posted.{Posted}
-use Rattle.accounting.specs.declared.Posting.{Posting}
-use Rattle.accounting.specs.declared.Posting.the-variants.{AddUsage, RemoveUsage, Reserve, Unreserve, SetCap}
-use Rattle.accounting.specs.declared.TagSpace.{TagSpace}
+use Rattle.accounting.specs.declared.posting.Posting.{Posting}
+use Rattle.accounting.specs.declared.posting.Posting.the-variants.{AddUsage, RemoveUsage, Reserve, Unreserve, SetCap}
+use Rattle.tagspace.specs.declared.TagSpace.{TagSpace}
 use Rattle.accounting.specs.declared.table.Spot.{Spot}
 use Rattle.numbers.specs.Lists.{All}
 

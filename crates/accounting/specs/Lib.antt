@@ -1,4 +1,3 @@
-pub mod Row
 pub mod Table
 pub mod Entries
 pub mod Inner

@@ -6,11 +6,11 @@ use mathlib.Core.List.{List, [], _∷_, _++_}
 use mathlib.Core.Path.{_≡_}
 use lib.Dec.{ltb, eqb}
 use lib.ListN.{length, take, replicate}
-use Rattle.accounting.specs.Row.{blank, reserve, unreserve, fits}
+use Rattle.tagspace.specs.Row.{blank, reserve, unreserve, fits}
 use Rattle.accounting.specs.declared.Accounting.{Accounting}
 use Rattle.accounting.specs.declared.Asked.{Asked}
 use Rattle.accounting.specs.declared.Posted.{Posted}
-use Rattle.accounting.specs.declared.TagSpace.{TagSpace}
+use Rattle.tagspace.specs.declared.TagSpace.{TagSpace}
 use Rattle.numbers.specs.Lists.{All, Any}
 use Rattle.numbers.specs.Sums.{stop}
 

@@ -1,15 +1,16 @@
 // The accounts of a region table, entry by entry.
 use crate::Accounting;
-use crate::ExtentLen;
 use crate::Posted;
 use crate::TOP;
-use crate::TagSpace;
-use crate::extent_len;
 use crate::refused;
+use tagspace::ExtentLen;
+use tagspace::TagSpace;
+use tagspace::extent_len;
 ghost use mathlib.Core.Path.{_≡_};
 ghost use mathlib.Core.Bool.{false};
 ghost use lib.ListN.{length};
-ghost use Rattle.accounting.specs.Entries.{Counts, extentLen, orElse, readyUsages, usages};
+ghost use Rattle.accounting.specs.Entries.{Counts, orElse, readyUsages, usages};
+ghost use Rattle.tagspace.specs.Extent.{extentLen};
 
 // The number of the state Ready in a region table.
 const READY: u8 = 1;

@@ -1,42 +1,26 @@
-// Usage by tag: what a tag's regions hold, what is reserved for it, and its cap.
+// Usage by tag: the rows of all tags in one record.
 mod entries;
-mod row;
+mod posting;
 mod table;
 
 use entries::count_entries;
 use entries::count_usage;
 use entries::extent_len_or;
 use numbers::add_stop;
-use numbers::passes;
 use numbers::sub_stop;
+use posting::Posting;
+use tagspace::Cap;
+use tagspace::TagSpace;
 ghost use mathlib.Core.Path.{_≡_};
 ghost use lib.ListN.{getD};
-ghost use Rattle.accounting.specs.Entries.{Counts, noTags, usages, readyUsages, differ, extentLen, lenOf, addedLen, removedLen};
-ghost use Rattle.accounting.specs.Row.{blank, addUsage, removeUsage, setCap};
+ghost use Rattle.accounting.specs.Entries.{Counts, noTags, usages, readyUsages, differ, addedLen, removedLen};
+ghost use Rattle.tagspace.specs.Row.{blank, addUsage, removeUsage, setCap};
 ghost use Rattle.accounting.specs.Table.{Valid, Posts, Asks, accountsOf, tableOf, onRow, reserving, unreserving, rowOf};
 
 pub(crate) const TOP: u64 = 0xffff_ffff_ffff_ffff;
 
 // The most tags.
 pub(crate) const MOST: usize = 96;
-
-// The most bytes that a tag's regions and reservations may hold together, if there is such a limit.
-pub enum Cap {
-    Nothing,
-    Limit(u64),
-}
-
-// Usage of one tag.
-pub struct TagSpace {
-    pub tag: u32,
-    // Data bytes of the tag's regions.
-    pub logical: u64,
-    // Bytes that the tag's regions occupy in the container, headers included.
-    pub physical: u64,
-    // Bytes reserved for the tag and not yet provisioned.
-    pub reserved: u64,
-    pub cap: Cap,
-}
 
 // The accounts of all tags. Rows stand in tag order; those at and past the count are blank.
 pub struct Accounting {
@@ -58,34 +42,6 @@ pub struct Asked {
     pub refusal: u64,
     pub fits: bool,
     pub accounts: Accounting,
-}
-
-// What a region occupies, none past 2^64 - 1.
-pub enum ExtentLen {
-    Bytes(u64),
-    Nothing,
-}
-
-// What a call does to its tag's row.
-pub(crate) enum Posting {
-    AddUsage(u64, u64),
-    RemoveUsage(u64, u64),
-    Reserve(u64),
-    Unreserve(u64),
-    SetCap(Cap),
-}
-
-// Two header blocks and the data.
-pub fn extent_len(data_size: u64, block: u64) -> ExtentLen
-    ensures { λ r. ⌜ lenOf r ≡ extentLen «data_size» block ⌝ }
-{
-    if passes(block, block, TOP) {
-        return ExtentLen::Nothing;
-    }
-    if passes(2 * block, data_size, TOP) {
-        return ExtentLen::Nothing;
-    }
-    ExtentLen::Bytes(2 * block + data_size)
 }
 
 // A refused list.

@@ -2,9 +2,10 @@
 use crate::Accounting;
 use crate::MOST;
 use crate::Posted;
-use crate::Posting;
-use crate::TagSpace;
+use crate::posting::Posting;
+use crate::posting::posted;
 use numbers::advance;
+use tagspace::TagSpace;
 ghost use mathlib.Core.Path.{_≡_};
 ghost use Prim.Native.Nat.{_≤_};
 ghost use Rattle.accounting.specs.Inner.{Sought, inserted, posted};
@@ -89,12 +90,12 @@ impl Accounting {
         let at = spot.at;
         if spot.known {
             let row = self.rows[at];
-            self.rows[at] = row.posted(posting);
+            self.rows[at] = posted(row, posting);
             return Posted {
                 refusal: 0,
                 accounts: self,
             };
         }
-        self.insert(at, TagSpace::blank(tag).posted(posting))
+        self.insert(at, posted(TagSpace::blank(tag), posting))
     }
 }

@@ -6,12 +6,12 @@ use native.Mathlib.Omega.{arith}
 use lib.ListN.{length, getD, take, set, length-set, length-map, length-replicate, List·getD-map}
 use lib.Seq.{take-all, take-suc, take-suc-set}
 use Rattle.accounting.specs.Entries.{noTags}
-use Rattle.accounting.specs.Row.{blank}
+use Rattle.tagspace.specs.Row.{blank}
 use Rattle.accounting.specs.Table.{accountsOf}
 use Rattle.accounting.specs.declared.Accounting.{Accounting}
-use Rattle.accounting.specs.declared.Cap.{Cap}
-use Rattle.accounting.specs.declared.Cap.the-variants.{Limit, Nothing}
-use Rattle.accounting.specs.declared.TagSpace.{TagSpace}
+use Rattle.tagspace.specs.declared.Cap.{Cap}
+use Rattle.tagspace.specs.declared.Cap.the-variants.{Limit, Nothing}
+use Rattle.tagspace.specs.declared.TagSpace.{TagSpace}
 use Rattle.exports.specs.Accounts.{capFrom, isCapped, limitOf, rowFrom, flatRow, accountsFrom, flatAccounts}
 
 -- the first i elements of ys are those of xs turned by f

@@ -5,10 +5,10 @@ use mathlib.Core.List.{List, map}
 use mathlib.Core.Path.{_≡_}
 use Rattle.accounting.specs.declared.Accounting.{Accounting}
 use Rattle.accounting.specs.declared.Asked.{Asked}
-use Rattle.accounting.specs.declared.Cap.{Cap}
-use Rattle.accounting.specs.declared.Cap.the-variants.{Limit, Nothing}
+use Rattle.tagspace.specs.declared.Cap.{Cap}
+use Rattle.tagspace.specs.declared.Cap.the-variants.{Limit, Nothing}
 use Rattle.accounting.specs.declared.Posted.{Posted}
-use Rattle.accounting.specs.declared.TagSpace.{TagSpace}
+use Rattle.tagspace.specs.declared.TagSpace.{TagSpace}
 use Rattle.exports.specs.declared.accounts.FlatAccounting.{FlatAccounting}
 use Rattle.exports.specs.declared.accounts.FlatAsked.{FlatAsked}
 use Rattle.exports.specs.declared.accounts.FlatPosted.{FlatPosted}

@@ -6,12 +6,12 @@ use mathlib.Core.Path.{_≡_}
 use lib.ListN.{length, getD, drop, set}
 use lib.Dec.{ltb}
 use Rattle.accounting.specs.Entries.{Usage}
-use Rattle.accounting.specs.Row.{addUsage, removeUsage}
+use Rattle.tagspace.specs.Row.{addUsage, removeUsage}
 use Rattle.accounting.specs.Table.{Posts, Asks, onRow}
 use Rattle.accounting.specs.declared.Accounting.{Accounting}
 use Rattle.accounting.specs.declared.Asked.{Asked}
 use Rattle.accounting.specs.declared.Posted.{Posted}
-use Rattle.accounting.specs.declared.TagSpace.{TagSpace}
+use Rattle.tagspace.specs.declared.TagSpace.{TagSpace}
 use Rattle.exports.specs.Accounts.{FlatPosts}
 use Rattle.exports.specs.Flat.{mapOr}
 use Rattle.exports.specs.declared.FlatAnswer.{FlatAnswer}

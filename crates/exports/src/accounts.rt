@@ -3,14 +3,15 @@ use crate::FlatAnswer;
 use crate::FlatOption;
 use accounting::Accounting;
 use accounting::Asked;
-use accounting::Cap;
-use accounting::ExtentLen;
 use accounting::Posted;
-use accounting::TagSpace;
+use tagspace::Cap;
+use tagspace::ExtentLen;
+use tagspace::TagSpace;
 ghost use mathlib.Core.Path.{_≡_};
 ghost use lib.ListN.{getD};
-ghost use Rattle.accounting.specs.Entries.{Counts, noTags, usage, usages, readyUsages, differ, extentLen, addedLen, removedLen};
-ghost use Rattle.accounting.specs.Row.{blank, addUsage, removeUsage, reserve, unreserve, setCap, fits};
+ghost use Rattle.accounting.specs.Entries.{Counts, noTags, usage, usages, readyUsages, differ, addedLen, removedLen};
+ghost use Rattle.tagspace.specs.Extent.{extentLen};
+ghost use Rattle.tagspace.specs.Row.{blank, addUsage, removeUsage, reserve, unreserve, setCap, fits};
 ghost use Rattle.accounting.specs.Table.{Valid, Posts, Asks, accountsOf, tableOf, onRow, reserving, unreserving, rowOf};
 ghost use Rattle.exports.specs.Each.{ruleOf, PostsEach, questions, AsksEach};
 ghost use Rattle.exports.specs.Flat.{flatOf};
@@ -139,7 +140,7 @@ fn flat_posted(posted: Posted) -> FlatPosted
 pub extern "C" fn fundravai_extent_len(size: u64, block: u64) -> FlatOption
     ensures { λ r. ⌜ r ≡ flatOf (extentLen size block) ⌝ }
 {
-    let len = accounting::extent_len(size, block);
+    let len = tagspace::extent_len(size, block);
     match len {
         ExtentLen::Bytes(n) => FlatOption { some: 1, value: n },
         ExtentLen::Nothing => FlatOption { some: 0, value: 0 },

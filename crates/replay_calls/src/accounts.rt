@@ -3,11 +3,7 @@
 // then are and the bytes reserved; the tag's row; and for the call that asks for them all rows.
 use accounting::Accounting;
 use accounting::Asked;
-use accounting::Cap;
-use accounting::ExtentLen;
 use accounting::Posted;
-use accounting::TagSpace;
-use accounting::extent_len;
 use sample::words::at;
 use sample::words::bytes_in;
 use sample::words::has;
@@ -15,6 +11,10 @@ use sample::words::nth_list;
 use sample::words::past;
 use sample::words::past_lists;
 use sample::words::whole;
+use tagspace::Cap;
+use tagspace::ExtentLen;
+use tagspace::TagSpace;
+use tagspace::extent_len;
 ghost use Prim.Native.Nat.{_<_};
 
 // The three numbers of a call's answer, and the accounts after it.

@@ -5,7 +5,7 @@ use native.Mathlib.Omega.{arith}
 use lib.ListN.{length, length-map}
 use borrow.Author.Needs.{needs}
 use Rattle.accounting.specs.Inner.{tagsOf}
-use Rattle.accounting.specs.declared.TagSpace.{TagSpace}
+use Rattle.tagspace.specs.declared.TagSpace.{TagSpace}
 use Rattle.accounting.proofs.Accounting.find.Statement.{statement}
 use Rattle.accounting.proofs.Tables.{tag-at, sought-none, sought-row, sought-place}
 use Rattle.numbers.proofs.Halving.{Halving, halving-begins, halving-on, halving-ends}

@@ -2,7 +2,7 @@
 use mathlib.Core.Path.{_≡_, sym}
 use native.Mathlib.Omega.{arith}
 use lib.ListN.{length, length-map}
-use Rattle.accounting.specs.Row.{blank}
+use Rattle.tagspace.specs.Row.{blank}
 use Rattle.accounting.proofs.Accounting.insert.Statement.{statement}
 use Rattle.accounting.proofs.Handing.{inserted-many, inserted-full, inserted-room}
 use Rattle.accounting.proofs.Shifting.{Inserting, insert-begins, insert-in, insert-on, insert-ends}

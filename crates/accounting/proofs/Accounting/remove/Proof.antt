@@ -2,7 +2,7 @@
 use Prim.Native.Nat.{ℕ}
 use mathlib.Core.Path.{subst}
 use borrow.Author.Needs.{needs}
-use Rattle.accounting.specs.Row.{removeUsage}
+use Rattle.tagspace.specs.Row.{removeUsage}
 use Rattle.accounting.specs.Table.{Posts, onRow}
 use Rattle.accounting.proofs.Accounting.remove.Statement.{statement}
 use Rattle.accounting.proofs.Accounting.remove.Tie as tie

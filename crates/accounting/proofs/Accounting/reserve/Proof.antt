@@ -2,7 +2,7 @@
 use Prim.Native.Nat.{_+_}
 use borrow.Author.Needs.{needs}
 use Rattle.accounting.specs.Inner.{posted}
-use Rattle.accounting.specs.Row.{reserve}
+use Rattle.tagspace.specs.Row.{reserve}
 use Rattle.accounting.specs.Table.{Table, onRow, reserving, tableOf}
 use Rattle.numbers.specs.Sums.{stop}
 use Rattle.accounting.proofs.Accounting.reserve.Statement.{statement}

@@ -2,7 +2,7 @@
 use Prim.Native.Nat.{_-_}
 use borrow.Author.Needs.{needs}
 use Rattle.accounting.specs.Inner.{posted}
-use Rattle.accounting.specs.Row.{unreserve}
+use Rattle.tagspace.specs.Row.{unreserve}
 use Rattle.accounting.specs.Table.{Table, onRow, unreserving, tableOf}
 use Rattle.accounting.proofs.Accounting.unreserve.Statement.{statement}
 use Rattle.accounting.proofs.Handing.{total-kept, total-posted, on-row-order}

@@ -6,7 +6,7 @@ use native.Mathlib.Omega.{arith}
 use lib.ListN.{length, drop}
 use borrow.Author.Needs.{needs}
 use Rattle.accounting.specs.Entries.{Usage, readyUsages}
-use Rattle.accounting.specs.Row.{blank, addUsage}
+use Rattle.tagspace.specs.Row.{blank, addUsage}
 use Rattle.accounting.proofs.Counting.{Counting, counts-begin, counts-known, counts-new, counts-full, counts-end, ready-next, ready-skip, ready-end}
 use Rattle.accounting.proofs.entries.count_entries.Statement.{statement}
 use Rattle.accounting.proofs.entries.count_entries.Tie as tie

@@ -5,7 +5,7 @@ use native.Mathlib.Omega.{arith}
 use lib.ListN.{length, drop}
 use borrow.Author.Needs.{needs}
 use Rattle.accounting.specs.Entries.{usages}
-use Rattle.accounting.specs.Row.{addUsage}
+use Rattle.tagspace.specs.Row.{addUsage}
 use Rattle.accounting.proofs.Counting.{Counting, counts-begin, counts-known, counts-new, counts-full, counts-end, usages-next, usages-end}
 use Rattle.accounting.proofs.entries.count_usage.Statement.{statement}
 use Rattle.accounting.proofs.entries.count_usage.Tie as tie

@@ -1,7 +1,8 @@
 -- `accounting::entries::extent_len_or` meets its contract: both cases of the answer.
 use mathlib.Core.Path.{ap, sym, _∙_}
 use borrow.Author.Needs.{needs}
-use Rattle.accounting.specs.Entries.{lenOf, orElse}
+use Rattle.accounting.specs.Entries.{orElse}
+use Rattle.tagspace.specs.Extent.{lenOf}
 use Rattle.accounting.proofs.entries.extent_len_or.Statement.{statement}
 use Rattle.accounting.proofs.entries.extent_len_or.Tie as tie
 

@@ -1,7 +1,7 @@
 -- `exports::accounts::fundravai_extent_len` meets its contract: each case of the answer goes over as it is.
 use mathlib.Core.Path.{sym, ap, _∙_}
 use borrow.Author.Needs.{needs}
-use Rattle.accounting.specs.Entries.{lenOf}
+use Rattle.tagspace.specs.Extent.{lenOf}
 use Rattle.exports.specs.Flat.{flatOf}
 use Rattle.exports.proofs.accounts.fundravai_extent_len.Statement.{statement}
 use Rattle.exports.proofs.accounts.fundravai_extent_len.Tie as tie

@@ -1,7 +1,7 @@
--- `accounting::TagSpace::remove_usage` meets its contract: two differences that stop.
+-- `tagspace::TagSpace::remove_usage` meets its contract: two differences that stop.
 use borrow.Author.Needs.{needs}
-use Rattle.accounting.proofs.TagSpace.remove_usage.Statement.{statement}
-use Rattle.accounting.proofs.TagSpace.remove_usage.Tie as tie
+use Rattle.tagspace.proofs.TagSpace.remove_usage.Statement.{statement}
+use Rattle.tagspace.proofs.TagSpace.remove_usage.Tie as tie
 
 sub-stop-requires : tie.Need-sub-stop-requires
 sub-stop-requires c κs = search needs

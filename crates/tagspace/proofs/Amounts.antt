@@ -6,7 +6,7 @@ use mathlib.Core.Path.{_≡_, sym, _∙_}
 use native.Mathlib.Omega.{arith}
 use lib.Dec.{leb}
 use borrow.Author.Tests.{lt-ltb, le-ltb, lt-leb, le-leb}
-use Rattle.accounting.specs.Entries.{extentLen}
+use Rattle.tagspace.specs.Extent.{extentLen}
 use Rattle.numbers.specs.Sums.{top}
 use Rattle.numbers.proofs.Cases.{by-lt}
 

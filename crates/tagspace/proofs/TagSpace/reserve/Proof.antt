@@ -1,7 +1,7 @@
--- `accounting::TagSpace::reserve` meets its contract: a sum that stops.
+-- `tagspace::TagSpace::reserve` meets its contract: a sum that stops.
 use borrow.Author.Needs.{needs}
-use Rattle.accounting.proofs.TagSpace.reserve.Statement.{statement}
-use Rattle.accounting.proofs.TagSpace.reserve.Tie as tie
+use Rattle.tagspace.proofs.TagSpace.reserve.Statement.{statement}
+use Rattle.tagspace.proofs.TagSpace.reserve.Tie as tie
 
 add-stop-requires : tie.Need-add-stop-requires
 add-stop-requires c κs = search needs

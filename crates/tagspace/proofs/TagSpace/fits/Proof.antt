@@ -1,8 +1,8 @@
--- `accounting::TagSpace::fits` meets its contract: no cap, or the sum held against it.
+-- `tagspace::TagSpace::fits` meets its contract: no cap, or the sum held against it.
 use borrow.Author.Needs.{needs}
-use Rattle.accounting.specs.Row.{fits, allows}
-use Rattle.accounting.proofs.TagSpace.fits.Statement.{statement}
-use Rattle.accounting.proofs.TagSpace.fits.Tie as tie
+use Rattle.tagspace.specs.Row.{fits, allows}
+use Rattle.tagspace.proofs.TagSpace.fits.Statement.{statement}
+use Rattle.tagspace.proofs.TagSpace.fits.Tie as tie
 
 enum-told : tie.Need-enum-told
 enum-told c = search needs

@@ -3,9 +3,9 @@
 use Prim.Native.Nat.{ℕ, _+_, _-_}
 use mathlib.Core.Bool.{Bool, true}
 use lib.Dec.{leb}
-use Rattle.accounting.specs.declared.Cap.{Cap}
-use Rattle.accounting.specs.declared.Cap.the-variants as cap-is
-use Rattle.accounting.specs.declared.TagSpace.{TagSpace}
+use Rattle.tagspace.specs.declared.Cap.{Cap}
+use Rattle.tagspace.specs.declared.Cap.the-variants as cap-is
+use Rattle.tagspace.specs.declared.TagSpace.{TagSpace}
 use Rattle.numbers.specs.Sums.{stop}
 
 -- The row of a tag that nothing was posted to.

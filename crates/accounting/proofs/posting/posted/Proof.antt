@@ -1,8 +1,8 @@
--- `accounting::TagSpace::posted` meets its contract: one rule for each posting.
+-- `accounting::posting::posted` meets its contract: one rule for each posting.
 use borrow.Author.Needs.{needs}
 use Rattle.accounting.specs.Inner.{posted}
-use Rattle.accounting.proofs.TagSpace.posted.Statement.{statement}
-use Rattle.accounting.proofs.TagSpace.posted.Tie as tie
+use Rattle.accounting.proofs.posting.posted.Statement.{statement}
+use Rattle.accounting.proofs.posting.posted.Tie as tie
 
 enum-known-posting : tie.Need-enum-known-posting
 enum-known-posting c = search needs

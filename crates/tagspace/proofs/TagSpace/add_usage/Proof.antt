@@ -1,7 +1,7 @@
--- `accounting::TagSpace::add_usage` meets its contract: two sums that stop.
+-- `tagspace::TagSpace::add_usage` meets its contract: two sums that stop.
 use borrow.Author.Needs.{needs}
-use Rattle.accounting.proofs.TagSpace.add_usage.Statement.{statement}
-use Rattle.accounting.proofs.TagSpace.add_usage.Tie as tie
+use Rattle.tagspace.proofs.TagSpace.add_usage.Statement.{statement}
+use Rattle.tagspace.proofs.TagSpace.add_usage.Tie as tie
 
 add-stop-requires : tie.Need-add-stop-requires
 add-stop-requires c κs = search needs

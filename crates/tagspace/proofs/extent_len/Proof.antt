@@ -1,13 +1,13 @@
--- `accounting::extent_len` meets its contract: two blocks, then the data, each held against 2^64 - 1.
+-- `tagspace::extent_len` meets its contract: two blocks, then the data, each held against 2^64 - 1.
 use Prim.Native.Nat.{_+_, _*_, _<_, _≤_}
 use mathlib.Core.Path.{sym, _∙_}
 use native.Mathlib.Omega.{arith}
 use borrow.Author.Needs.{needs}
 use borrow.Author.Tests.{ltb-true, ltb-false}
 use Rattle.numbers.specs.Sums.{top}
-use Rattle.accounting.proofs.Amounts.{extent-none, extent-some}
-use Rattle.accounting.proofs.extent_len.Statement.{statement}
-use Rattle.accounting.proofs.extent_len.Tie as tie
+use Rattle.tagspace.proofs.Amounts.{extent-none, extent-some}
+use Rattle.tagspace.proofs.extent_len.Statement.{statement}
+use Rattle.tagspace.proofs.extent_len.Tie as tie
 
 passes-requires : tie.Need-passes-requires
 passes-requires c κs = search needs

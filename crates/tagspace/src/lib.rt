@@ -1,14 +1,52 @@
-// The rules for one tag's row.
-use crate::Cap;
-use crate::Posting;
-use crate::TagSpace;
+// Usage of one tag: what its regions hold, what is reserved for it, its cap, and the rules by which a
+// call changes it. Beside them, what a region occupies.
 use numbers::add_stop;
+use numbers::passes;
 use numbers::sub_stop;
 ghost use mathlib.Core.Path.{_≡_};
 ghost use Prim.Native.Nat.{_+_};
 ghost use lib.Dec.{leb};
-ghost use Rattle.accounting.specs.Inner.{posted};
-ghost use Rattle.accounting.specs.Row.{blank, addUsage, removeUsage, reserve, unreserve, setCap, fits};
+ghost use Rattle.tagspace.specs.Extent.{extentLen, lenOf};
+ghost use Rattle.tagspace.specs.Row.{blank, addUsage, removeUsage, reserve, unreserve, setCap, fits};
+
+const TOP: u64 = 0xffff_ffff_ffff_ffff;
+
+// The most bytes that a tag's regions and reservations may hold together, if there is such a limit.
+pub enum Cap {
+    Nothing,
+    Limit(u64),
+}
+
+// Usage of one tag.
+pub struct TagSpace {
+    pub tag: u32,
+    // Data bytes of the tag's regions.
+    pub logical: u64,
+    // Bytes that the tag's regions occupy in the container, headers included.
+    pub physical: u64,
+    // Bytes reserved for the tag and not yet provisioned.
+    pub reserved: u64,
+    pub cap: Cap,
+}
+
+// What a region occupies, none past 2^64 - 1.
+pub enum ExtentLen {
+    Bytes(u64),
+    Nothing,
+}
+
+// Two header blocks and the data.
+pub fn extent_len(data_size: u64, block: u64) -> ExtentLen
+    ensures { λ r. ⌜ lenOf r ≡ extentLen «data_size» block ⌝ }
+{
+    if passes(block, block, TOP) {
+        return ExtentLen::Nothing;
+    }
+    if passes(2 * block, data_size, TOP) {
+        return ExtentLen::Nothing;
+    }
+    ExtentLen::Bytes(2 * block + data_size)
+}
 
 // Whether a + b + c is at most limit.
 fn at_most(a: u64, b: u64, c: u64, limit: u64) -> bool
@@ -93,19 +131,6 @@ impl TagSpace {
         match cap {
             Cap::Nothing => true,
             Cap::Limit(limit) => at_most(self.physical, self.reserved, extra, limit),
-        }
-    }
-
-    // The row after a posting.
-    pub(crate) fn posted(self, posting: Posting) -> TagSpace
-        ensures { λ r. ⌜ r ≡ posted posting self ⌝ }
-    {
-        match posting {
-            Posting::AddUsage(logical, physical) => self.add_usage(logical, physical),
-            Posting::RemoveUsage(logical, physical) => self.remove_usage(logical, physical),
-            Posting::Reserve(bytes) => self.reserve(bytes),
-            Posting::Unreserve(bytes) => self.unreserve(bytes),
-            Posting::SetCap(cap) => self.set_cap(cap),
         }
     }
 }

@@ -1,9 +1,9 @@
--- `accounting::row::at_most` meets its contract: what the first two leave of the limit is held against the third.
+-- `tagspace::at_most` meets its contract: what the first two leave of the limit is held against the third.
 use mathlib.Core.Path.{sym}
 use native.Mathlib.Omega.{arith}
-use Rattle.accounting.proofs.Amounts.{above-limit, under-limit}
-use Rattle.accounting.proofs.row.at_most.Statement.{statement}
-use Rattle.accounting.proofs.row.at_most.Tie as tie
+use Rattle.tagspace.proofs.Amounts.{above-limit, under-limit}
+use Rattle.tagspace.proofs.at_most.Statement.{statement}
+use Rattle.tagspace.proofs.at_most.Tie as tie
 
 returns : tie.Need-returns
 returns c = let a = c .before .args in let h = c .if1 .taken in sym (above-limit _ _ _ (a .limit) (omega (arith, h)))

@@ -1,7 +1,7 @@
--- `accounting::TagSpace::unreserve` meets its contract: a difference that stops.
+-- `tagspace::TagSpace::unreserve` meets its contract: a difference that stops.
 use borrow.Author.Needs.{needs}
-use Rattle.accounting.proofs.TagSpace.unreserve.Statement.{statement}
-use Rattle.accounting.proofs.TagSpace.unreserve.Tie as tie
+use Rattle.tagspace.proofs.TagSpace.unreserve.Statement.{statement}
+use Rattle.tagspace.proofs.TagSpace.unreserve.Tie as tie
 
 sub-stop-requires : tie.Need-sub-stop-requires
 sub-stop-requires c κs = search needs

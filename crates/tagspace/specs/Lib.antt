@@ -1,0 +1,2 @@
+pub mod Row
+pub mod Extent
