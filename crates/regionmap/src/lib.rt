@@ -204,10 +204,10 @@ impl RegionMap {
         requires { ⌜ self .count ≤ length (now starts) ⌝ }
         ensures { λ r. ⌜ RunEnd (now (starts .entry)) (self .count) (self .capacity) k r ⌝ }
     {
-        if k < self.count {
-            return starts[k];
+        if k >= self.count {
+            return self.capacity;
         }
-        self.capacity
+        starts[k]
     }
 
     // The byte of position pos, where the n bytes from there are data and lie in one run.

@@ -32,8 +32,8 @@ pub fn front(slots: &mut [u64], n: u64) -> &mut [u64]
     ensures { λ r. ⌜ r .ptr ≡ slots .entry .ptr ⌝ }
 {
     if n < slots.len() as u64 {
-        let end = n as usize;
-        return &mut slots[0..end];
+        let size = n as usize;
+        return &mut slots[0..size];
     }
     slots
 }
