@@ -9,13 +9,13 @@ use lib.Seq.{drop-drop}
 use borrow.Author.Tests.{eq-eqb, ne-eqb}
 use Rattle.accounting.specs.Entries.{Usage, Counts, usage, usages, readyUsages, addedLen, addAll, noTags, differ}
 use Rattle.accounting.specs.Inner.{Sought, inserted}
-use Rattle.tagspace.specs.Row.{blank, addUsage}
-use Rattle.accounting.specs.Table.{Table, InTagOrder, Valid, Posts, accountsOf, tableOf, onRow}
+use Rattle.accounting.specs.Table.{Table, Valid, Posts, accountsOf, tableOf, onRow}
 use Rattle.accounting.specs.declared.Accounting.{Accounting}
 use Rattle.accounting.specs.declared.Posted.{Posted}
-use Rattle.tagspace.specs.declared.TagSpace.{TagSpace}
 use Rattle.accounting.specs.declared.table.Spot.{Spot}
-use Rattle.accounting.proofs.Handing.{handed-fit, handed-full, posts-known, posts-unknown, on-row-order}
+use Rattle.tagspace.specs.Row.{blank, addUsage}
+use Rattle.tagspace.specs.declared.TagSpace.{TagSpace}
+use Rattle.accounting.proofs.Handing.{handed-fit, handed-full, posts-known, posts-unknown}
 use Rattle.accounting.proofs.Rows.{put-more}
 use Rattle.accounting.proofs.Tables.{table-accounts, accounts-valid, count-rows}
 use Rattle.numbers.proofs.Cases.{by-lt}
@@ -31,11 +31,6 @@ add-more (u ∷ us) t =
     let h : length (t .rows) ≤ length (n .rows) = put-more _ (t .rows) in
     let k : length (n .rows) ≤ length (addAll us n .rows) = add-more us n in
     omega (arith, h, k)
-
-pub add-order : (us : List Usage) (t : Table) → InTagOrder (t .rows) → InTagOrder (addAll us t .rows)
-unfolding addAll
-add-order [] t o = o
-add-order (u ∷ us) t o = add-order us _ (on-row-order (u .tag) (addUsage (u .logical) (u .physical)) t o)
 
 -- ---- some usages counted, the rest to come
 

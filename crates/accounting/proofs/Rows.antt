@@ -8,8 +8,8 @@ use lib.ListN.{length, getD, take, drop, set, take-append-drop}
 use lib.Seq.{set-split, split-at}
 use borrow.Author.Tests.{lt-ltb, le-ltb, eq-eqb, ne-eqb}
 use Rattle.accounting.specs.Inner.{Lower, Higher}
-use Rattle.tagspace.specs.Row.{blank}
 use Rattle.accounting.specs.Table.{InTagOrder, rowOf, put}
+use Rattle.tagspace.specs.Row.{blank}
 use Rattle.tagspace.specs.declared.TagSpace.{TagSpace}
 use Rattle.numbers.proofs.Cases.{by-lt, by-eq}
 use Rattle.numbers.proofs.Lists.{all-at, all-imp}
@@ -69,11 +69,6 @@ pub order-front : (rs : List TagSpace) → InTagOrder rs → (j : ℕ) (d : TagS
 order-front [] o j d h = absurd (not-suc-le-zero h)
 order-front (r ∷ rs) o zero d h = tt
 order-front (r ∷ rs) o (suc j) d h = (all-at (λ (q : TagSpace). r .tag < q .tag) rs j d (o .0) (le-of-suc-le-suc h), order-front rs (o .1) j d (le-of-suc-le-suc h))
-
-pub order-behind : (rs : List TagSpace) → InTagOrder rs → (j : ℕ) (d : TagSpace) → j < length rs → Higher (getD rs j d .tag) (drop (suc j) rs)
-order-behind [] o j d h = absurd (not-suc-le-zero h)
-order-behind (r ∷ rs) o zero d h = o .0
-order-behind (r ∷ rs) o (suc j) d h = order-behind rs (o .1) j d (le-of-suc-le-suc h)
 
 -- a row put among higher ones keeps them higher
 put-higher : (n : ℕ) (x : TagSpace) (rs : List TagSpace) → n < x .tag → Higher n rs → Higher n (put x rs)

@@ -10,14 +10,14 @@ use footprint::Entry;
 use footprint::Header;
 use footprint::Limits;
 use footprint::RegionKind;
-use footprint::RunCount;
 use footprint::Verdict;
+use runs::RunCount;
 ghost use mathlib.Core.Path.{_≡_};
 ghost use Rattle.align.specs.Align.{alignUp};
 ghost use Rattle.sort.specs.Sort.{Sorted};
 ghost use Rattle.numbers.specs.Range.{range};
 ghost use Rattle.footprint.specs.Footprint.{maxExtents, answerOf, Filled};
-ghost use Rattle.footprint.specs.Runs.{Listed, countOf};
+ghost use Rattle.runs.specs.Runs.{Listed, countOf};
 ghost use Rattle.exports.specs.Flat.{flatOf, flatAnswer, kindOf, limitsOf, entryOf, headerOf, Told, FlatTold, FlatAnswers, FlatChecked};
 
 // A number or none: some is 1 or 0, and value is 0 where there is none.
@@ -246,6 +246,6 @@ pub extern "C" fn fundravai_runs(
 ) -> FlatAnswer
     ensures { λ r. ⌜ FlatAnswers (Listed (now (extents .entry)) (now (starts .entry)) (now (starts .exit)) (now (files .entry)) (now (files .exit)) (now (lens .entry)) (now (lens .exit))) r ⌝ }
 {
-    let count = footprint::runs(extents, starts, files, lens);
+    let count = runs::runs(extents, starts, files, lens);
     flat_count(count)
 }

@@ -1,4 +1,4 @@
--- What the steps of the check and of `runs` do; no public call promises anything by these.
+-- What the steps of the check do; no public call promises anything by these.
 use Prim.Native.Nat.{ℕ, _+_, _-_, _≤_, _<_}
 use mathlib.Core.Bool.{Bool, false, _||_}
 use mathlib.Core.List.{List, [], _∷_, _++_, map}
@@ -6,7 +6,6 @@ use mathlib.Core.Path.{_≡_}
 use lib.Dec.{ltb}
 use lib.ListN.{length, getD, drop}
 use Rattle.footprint.specs.Footprint.{committed, footprintOf, entryTests, headerTests, extentTests}
-use Rattle.footprint.specs.Runs.{Run, notEmpty, joinedTo, joined, runsOf}
 use Rattle.footprint.specs.declared.Entry.{Entry}
 use Rattle.footprint.specs.declared.Header.{Header}
 use Rattle.footprint.specs.declared.Limits.{Limits}
@@ -35,16 +34,3 @@ pub record Reported (a : Answer (List Range)) (refusal : ℕ) (old extra : Range
   pub number : refusal ≡ numberOf a
   pub handed : extra ≡ getD (valueOr [] a) 0 old
   pub accepts : usable ≡ isAccepted a
-
--- The run that begins with the extent i has length len, and the extent `next` is the first behind it.
-pub record Reached (xs : List Range) (i len next : ℕ) : Type 0 where
-  pub behind : i < next
-  pub inside : next ≤ length xs
-  pub goes : joinedTo (getD xs i blank) (notEmpty (drop (i + 1) xs)) ≡ range (getD xs i blank .offset) len ∷ joined (notEmpty (drop next xs))
-
--- k runs stand in the first slots of three lists.
-pub record Joined (xs : List Range) (s₀ s f₀ f l₀ l : List ℕ) (k : ℕ) : Type 0 where
-  pub count : k ≡ length (runsOf xs)
-  pub starts : s ≡ written (map (λ (r : Run). r .start) (runsOf xs)) s₀
-  pub files : f ≡ written (map (λ (r : Run). r .file) (runsOf xs)) f₀
-  pub lens : l ≡ written (map (λ (r : Run). r .len) (runsOf xs)) l₀

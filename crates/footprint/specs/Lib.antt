@@ -1,3 +1,2 @@
 pub mod Footprint
-pub mod Runs
 pub mod Inner

@@ -1,12 +1,10 @@
 // A region's footprint: the rules between a table entry, its region header and the container that
-// decide whether the region is usable, the byte ranges it then occupies, and the runs of its data.
+// decide whether the region is usable, and the byte ranges it then occupies.
 mod extents;
-mod join;
 mod layout;
 mod records;
 
 use extents::extents_refusal;
-use join::join;
 use layout::lay_out;
 use records::block_of;
 use records::entry_fails;
@@ -18,7 +16,6 @@ ghost use mathlib.Core.Path.{_≡_};
 ghost use Rattle.numbers.specs.Range.{range};
 ghost use Rattle.footprint.specs.Footprint.{maxExtents, answerOf, Filled, Checked};
 ghost use Rattle.footprint.specs.Inner.{beforeLast, Reported};
-ghost use Rattle.footprint.specs.Runs.{Listed, countOf};
 
 // What a region is for.
 pub enum RegionKind {
@@ -63,12 +60,6 @@ pub struct Header {
 pub enum Verdict {
     Usable,
     Ahead(u64, u64),
-    Refused(u64),
-}
-
-// How many runs were written, or document 01's refusal.
-pub enum RunCount {
-    Runs(usize),
     Refused(u64),
 }
 
@@ -176,24 +167,4 @@ pub fn check_region<'a>(
         return &mut scratch[0..end];
     }
     &mut scratch[0..0]
-}
-
-// The runs of extents, each as its start, its file offset and its length.
-pub fn runs(extents: &[u64], starts: &mut [u64], files: &mut [u64], lens: &mut [u64]) -> RunCount
-    ensures { λ r. ⌜ Listed (now (extents .entry)) (now (starts .entry)) (now (starts .exit)) (now (files .entry)) (now (files .exit)) (now (lens .entry)) (now (lens .exit)) (countOf r) ⌝ }
-{
-    if extents.len() % 2 != 0 {
-        return RunCount::Refused(1);
-    }
-    let n = extents.len() / 2;
-    if starts.len() < n {
-        return RunCount::Refused(1);
-    }
-    if files.len() < n {
-        return RunCount::Refused(1);
-    }
-    if lens.len() < n {
-        return RunCount::Refused(1);
-    }
-    RunCount::Runs(join(extents, starts, files, lens))
 }

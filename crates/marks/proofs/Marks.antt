@@ -2,7 +2,7 @@
 use mathlib.Core.Path.{refl}
 use native.Mathlib.Omega.{arith}
 use Rattle.align.specs.Align.{upTo, alignUp}
-use Rattle.footprint.specs.Runs.{notEmpty, joins, joinedTo, joined, runsFrom, runsFail}
+use Rattle.runs.specs.Runs.{notEmpty, joins, joinedTo, joined, runsFrom, runsFail}
 use Rattle.freemap.specs.Fit.{placeIn, skipped, allows, firstFit, fitRefusal}
 use Rattle.freemap.specs.Gaps.{covered, ahead, maximal, tailOf, complementFails, tooFew}
 use Rattle.marks.specs.Marks.{Marks}

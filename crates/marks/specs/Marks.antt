@@ -6,7 +6,7 @@ use mathlib.Core.Option.{none, some}
 use mathlib.Core.Path.{_≡_}
 use lib.ListN.{replicate}
 use Rattle.align.specs.Align.{alignUp}
-use Rattle.footprint.specs.Runs.{run, runsOf, runsAnswer}
+use Rattle.runs.specs.Runs.{run, runsOf, runsAnswer}
 use Rattle.freemap.specs.Fit.{fitOf}
 use Rattle.freemap.specs.Gaps.{gapsOf, tailOf, Complemented}
 use Rattle.freemap.specs.declared.FreeMap.{FreeMap}

@@ -3,12 +3,12 @@
 use Prim.Native.Nat.{ℕ, zero, suc, _+_, _-_, _≤_, _<_}
 use mathlib.Core.Bool.{Bool, true, false, _||_, or-true, or-assoc}
 use mathlib.Core.List.{List, [], _∷_, _++_, map, reverse, reverse-cons}
-use mathlib.Core.Logic.{_⊎_, inl, inr, ⊎-elim}
+use mathlib.Core.Logic.{inl, inr}
 use mathlib.Core.Path.{_≡_, refl, ap, sym, _∙_}
 use native.Mathlib.Nat.{le-of-suc-le-suc, not-suc-le-zero}
 use native.Mathlib.Omega.{arith}
 use lib.Dec.{eqb}
-use lib.ListN.{length, getD, take, drop, set, length-append, length-drop, length-reverse, List·getD-append}
+use lib.ListN.{length, getD, drop, set, length-append, length-drop, length-reverse, List·getD-append}
 use lib.Seq.{drop-cons, append-snoc, set-at, getD-at, getD-drop, getD-set-same, getD-set-other}
 use borrow.Author.Tests.{eq-eqb, eqb-true}
 use Rattle.numbers.specs.Lists.{All, Any, any, same, written}
@@ -26,16 +26,6 @@ module _ {A : Type 0} (P : A → Type 0) where
   pub all-right : (xs ys : List A) → All P (xs ++ ys) → All P ys
   all-right [] ys a = a
   all-right (x ∷ xs) ys a = all-right xs ys (a .1)
-
-  pub all-take : (n : ℕ) (l : List A) → All P l → All P (take n l)
-  all-take zero l a = tt
-  all-take (suc n) [] a = tt
-  all-take (suc n) (x ∷ xs) a = (a .0, all-take n xs (a .1))
-
-  pub all-drop : (n : ℕ) (l : List A) → All P l → All P (drop n l)
-  all-drop zero l a = a
-  all-drop (suc n) [] a = tt
-  all-drop (suc n) (x ∷ xs) a = all-drop n xs (a .1)
 
   -- at an index, and from every index
   pub all-at : (l : List A) (i : ℕ) (d : A) → All P l → i < length l → P (getD l i d)
@@ -64,21 +54,7 @@ module _ {A : Type 0} (P : A → Type 0) where
   map-all h [] a = tt
   map-all h (x ∷ xs) a = (a .0, map-all h xs (a .1))
 
-  -- some element: of either part, at an index, and not where all are ruled out
-  pub any-left : (xs ys : List A) → Any P xs → Any P (xs ++ ys)
-  any-left [] ys a = absurd a
-  any-left (x ∷ xs) ys (inl p) = inl p
-  any-left (x ∷ xs) ys (inr a) = inr (any-left xs ys a)
-
-  pub any-right : (xs ys : List A) → Any P ys → Any P (xs ++ ys)
-  any-right [] ys a = a
-  any-right (x ∷ xs) ys a = inr (any-right xs ys a)
-
-  pub any-part : (xs ys : List A) → Any P (xs ++ ys) → Any P xs ⊎ Any P ys
-  any-part [] ys a = inr a
-  any-part (x ∷ xs) ys (inl p) = inl (inl p)
-  any-part (x ∷ xs) ys (inr a) = ⊎-elim (λ b. inl (inr b)) (λ b. inr b) (any-part xs ys a)
-
+  -- some element: at an index, and not where all are ruled out
   pub any-of : (l : List A) (i : ℕ) (d : A) → i < length l → P (getD l i d) → Any P l
   any-of [] i d h p = absurd (not-suc-le-zero h)
   any-of (x ∷ xs) zero d h p = inl p
@@ -93,10 +69,6 @@ module _ {A : Type 0} (P : A → Type 0) where
   any-imp Q f [] a = a
   any-imp Q f (x ∷ xs) (inl p) = inl (f x p)
   any-imp Q f (x ∷ xs) (inr a) = inr (any-imp Q f xs a)
-
-  pub none-all : (l : List A) → (Any P l → ⊥) → All (λ (x : A). P x → ⊥) l
-  none-all [] n = tt
-  none-all (x ∷ xs) n = (λ p. n (inl p), none-all xs (λ a. n (inr a)))
 
   pub all-none : (l : List A) → All (λ (x : A). P x → ⊥) l → Any P l → ⊥
   all-none [] f a = a

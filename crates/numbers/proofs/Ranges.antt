@@ -21,12 +21,9 @@ module _ (r : Range) where
   unfolding endOf
   end-top = omega arith
 
-  -- a range of length 0 has no byte, and one with a byte has its offset
+  -- a range of length 0 has no byte
   pub none-has : (b : ℕ) → r .len ≡ 0 → Has r b → ⊥
   none-has b z h = let e = end-le in omega arith
-
-  pub has-first : (b : ℕ) → Has r b → Has r (r .offset)
-  has-first b h = record { from = omega arith; upto = omega arith }
 
   -- the test says whether it has a byte
   pub has-true : (b : ℕ) → has r b ≡ true → Has r b

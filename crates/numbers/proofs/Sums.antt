@@ -1,12 +1,12 @@
 -- Sums over lists, and sums that stop at 2^64 - 1.
-use Prim.Native.Nat.{ℕ, zero, suc, _+_, _≤_, _<_}
+use Prim.Native.Nat.{ℕ, suc, _+_, _≤_, _<_}
 use mathlib.Core.List.{List, [], _∷_, _++_, map-append}
 use mathlib.Core.Path.{_≡_, ap, sym, _∙_}
 use native.Mathlib.Omega.{arith}
 use lib.ListN.{length, getD, take, drop, take-append-drop}
 use lib.Seq.{take-suc, take-take}
 use Rattle.numbers.specs.Range.{Range, total}
-use Rattle.numbers.specs.Sums.{top, stop, sum}
+use Rattle.numbers.specs.Sums.{stop, sum}
 
 pub sum-append : (xs ys : List ℕ) → sum (xs ++ ys) ≡ sum xs + sum ys
 unfolding sum
@@ -15,12 +15,6 @@ sum-append (x ∷ xs) ys = let e = sum-append xs ys in omega arith
 
 pub sum-split : (n : ℕ) (xs : List ℕ) → sum (take n xs) + sum (drop n xs) ≡ sum xs
 sum-split n xs = sym (sum-append (take n xs) (drop n xs)) ∙ ap sum (take-append-drop n xs)
-
-pub at-le-sum : (xs : List ℕ) (i : ℕ) → getD xs i 0 ≤ sum xs
-unfolding sum
-at-le-sum [] i = omega arith
-at-le-sum (x ∷ xs) zero = omega arith
-at-le-sum (x ∷ xs) (suc i) = let h = at-le-sum xs i in omega arith
 
 -- of one more at the end, and of a shorter front
 pub sum-next : (l : List ℕ) (i : ℕ) → i < length l → sum (take (suc i) l) ≡ sum (take i l) + getD l i 0
@@ -36,12 +30,6 @@ sum-front l i j h =
 -- a sum that stopped may be added to as if it had not
 pub stop-add : (a b : ℕ) → stop (stop a + b) ≡ stop (a + b)
 stop-add a b = omega arith
-
-pub stop-exact : (n : ℕ) → n ≤ top → stop n ≡ n
-stop-exact n h = omega arith
-
-pub stop-mono : (a b : ℕ) → a ≤ b → stop a ≤ stop b
-stop-mono a b h = omega arith
 
 -- the lengths of ranges together
 pub total-append : (xs ys : List Range) → total (xs ++ ys) ≡ total xs + total ys

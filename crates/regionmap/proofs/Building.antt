@@ -6,7 +6,7 @@ use native.Mathlib.Omega.{arith}
 use lib.ListN.{length, getD, take, drop, set, length-append}
 use lib.Seq.{take-suc, take-all}
 use borrow.Author.Tests.{eq-eqb, ne-eqb}
-use Rattle.footprint.specs.Runs.{Run, run, blankRun, runsOf}
+use Rattle.runs.specs.Runs.{Run, run, blankRun, runsOf}
 use Rattle.numbers.specs.Lists.{All, written}
 use Rattle.numbers.specs.Pairs.{pairs}
 use Rattle.numbers.specs.Range.{Range, range, blank, total}
@@ -14,7 +14,7 @@ use Rattle.numbers.specs.Refusals.{eachExtent}
 use Rattle.numbers.specs.Sums.{top, sum}
 use Rattle.regionmap.specs.Inner.{Laid}
 use Rattle.regionmap.specs.Map.{passesTop, withFirst, fileEnd, longer, extendedRuns}
-use Rattle.footprint.proofs.Joining.{fills, same-length}
+use Rattle.runs.proofs.Joining.{fills, same-length}
 use Rattle.numbers.proofs.Lists.{all-at}
 use Rattle.numbers.proofs.Pairs.{length-pairs, pair-in, pair-at}
 use Rattle.numbers.proofs.Sums.{total-one, total-take}

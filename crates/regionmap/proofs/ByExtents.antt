@@ -8,13 +8,13 @@ use native.Mathlib.Omega.{arith}
 use lib.Dec.{ltb}
 use lib.ListN.{length, getD}
 use borrow.Author.Tests.{le-ltb, ne-eqb, le-leb, lt-leb}
-use Rattle.footprint.specs.Runs.{Run, blankRun, runsOf, runByte, byteOf, Holds}
+use Rattle.runs.specs.Runs.{Run, blankRun, runsOf, runByte, byteOf, Holds}
 use Rattle.numbers.specs.Range.{Range, total}
 use Rattle.numbers.specs.Refusals.{refuse, first, Answer, accepted, answer}
 use Rattle.numbers.specs.Sums.{top}
 use Rattle.regionmap.specs.Map.{Placement, EndToEnd, Sound, lastAt, Lays, tooFew, passesTop, extendRefusal, runOf, locateRefusal, locateOf}
-use Rattle.footprint.proofs.Bytes.{Ends, runs-some, runs-no-touch}
-use Rattle.footprint.proofs.Positions.{InOneRun, in-one-run}
+use Rattle.runs.proofs.Bytes.{Ends, runs-some, runs-no-touch}
+use Rattle.runs.proofs.Positions.{InOneRun, in-one-run}
 use Rattle.numbers.proofs.Answers.{answer-value}
 use Rattle.numbers.proofs.Cases.{by-lt}
 use Rattle.numbers.proofs.Refusals.{none-first, pass-none}

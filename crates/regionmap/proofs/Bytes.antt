@@ -9,12 +9,12 @@ use native.Mathlib.Omega.{arith}
 use lib.Dec.{leb, eqb}
 use lib.ListN.{length, getD, length-append}
 use borrow.Author.Tests.{eq-eqb, ne-eqb, le-leb, lt-leb}
-use Rattle.footprint.specs.Runs.{Run, run, blankRun, runsOf, byteOf, Holds, runByte}
+use Rattle.runs.specs.Runs.{Run, run, blankRun, runsOf, byteOf, Holds, runByte}
 use Rattle.numbers.specs.Lists.{All}
 use Rattle.numbers.specs.Range.{Range, range, total}
 use Rattle.numbers.specs.Sums.{top}
 use Rattle.regionmap.specs.Map.{Placement, EndToEnd, fileEnd, longer, extendedRuns, extended, withFirst, placed, withRoom, published, lastAt, runOf, byteAt, Lays}
-use Rattle.footprint.proofs.Positions.{in-one-run}
+use Rattle.runs.proofs.Positions.{in-one-run}
 use Rattle.numbers.proofs.Cases.{cases, by-lt, by-eq}
 use Rattle.numbers.proofs.Sums.{total-one}
 use Rattle.regionmap.proofs.Extents.{extended-cons, runs-none, runs-first, runs-next, runs-laid, none-total}

@@ -7,15 +7,15 @@ use native.Mathlib.Omega.{arith}
 use lib.Dec.{eqb}
 use lib.ListN.{length}
 use borrow.Author.Tests.{eq-eqb, ne-eqb, ltb-false}
-use Rattle.footprint.specs.Runs.{Run, run, notEmpty, joins, joinedTo, joined, runsFrom, runsOf}
+use Rattle.runs.specs.Runs.{Run, run, notEmpty, joins, joinedTo, joined, runsFrom, runsOf}
 use Rattle.numbers.specs.Lists.{All}
 use Rattle.numbers.specs.Range.{Range, range, total}
 use Rattle.numbers.specs.Refusals.{eachExtent}
 use Rattle.numbers.specs.Sums.{top, stop, sum}
 use Rattle.regionmap.specs.Map.{EndToEnd, fileEnd, longer, extendedRuns, passesTop}
-use Rattle.footprint.proofs.Bytes.{from-length}
-use Rattle.footprint.proofs.Joining.{joins-true, true-joins}
-use Rattle.footprint.proofs.Positions.{total-joined, total-notEmpty}
+use Rattle.runs.proofs.Bytes.{from-length}
+use Rattle.runs.proofs.Joining.{joins-true, true-joins}
+use Rattle.runs.proofs.Positions.{total-joined, total-notEmpty}
 use Rattle.numbers.proofs.Cases.{cases, by-eq}
 use Rattle.numbers.proofs.Lists.{all-imp}
 use Rattle.numbers.proofs.Refusals.{each-inside, each-sum}

@@ -6,8 +6,8 @@ use mathlib.Core.Path.{_≡_, refl, ap, sym, _∙_}
 use native.Mathlib.Omega.{arith}
 use lib.ListN.{length, getD, take, drop, set, length-append, length-map, drop-of-length-le}
 use lib.Seq.{drop-cons, append-snoc, getD-take, length-take-le}
-use Rattle.footprint.specs.Runs.{Run, run, countOf}
-use Rattle.footprint.specs.declared.RunCount.the-variants.{Runs, Refused}
+use Rattle.runs.specs.Runs.{Run, run, countOf}
+use Rattle.runs.specs.declared.RunCount.the-variants.{Runs, Refused}
 use Rattle.numbers.specs.Lists.{written}
 use Rattle.numbers.specs.Pairs.{pairs, flat}
 use Rattle.numbers.specs.Range.{range}

@@ -8,7 +8,7 @@ use lib.Dec.{ltb}
 use lib.ListN.{length, getD, take}
 use lib.Seq.{length-take-le, getD-take}
 use borrow.Author.Tests.{ltb-false, le-ltb}
-use Rattle.footprint.specs.Runs.{Run, blankRun}
+use Rattle.runs.specs.Runs.{Run, blankRun}
 use Rattle.numbers.specs.Refusals.{first, refuse, accepted, refused, answer}
 use Rattle.numbers.specs.Search.{Rising, Found}
 use Rattle.numbers.specs.Sums.{top, stop}

@@ -7,7 +7,7 @@ use native.Mathlib.Omega.{arith}
 use lib.ListN.{length, getD, take, drop, length-append, length-map, length-drop}
 use lib.Seq.{take-at}
 use borrow.Author.Tests.{ne-eqb, le-ltb, lt-ltb}
-use Rattle.footprint.specs.Runs.{Run, blankRun, runsOf}
+use Rattle.runs.specs.Runs.{Run, blankRun, runsOf}
 use Rattle.numbers.specs.Lists.{All, written}
 use Rattle.numbers.specs.Pairs.{pairs}
 use Rattle.numbers.specs.Range.{total}
@@ -17,7 +17,7 @@ use Rattle.regionmap.specs.Inner.{Laid}
 use Rattle.regionmap.specs.Map.{runsTo, placementOf, EndToEnd, Sound, limit, extentsFail, passesTop, fromRefusal, withFirst, placed, Made}
 use Rattle.regionmap.specs.declared.Mapped.the-variants.{Map, Refused}
 use Rattle.regionmap.specs.declared.RegionMap.{RegionMap}
-use Rattle.footprint.proofs.Bytes.{runs-inside}
+use Rattle.runs.proofs.Bytes.{runs-inside}
 use Rattle.regionmap.proofs.Extents.{each-ends, each-whole, runs-laid, runs-few}
 use Rattle.regionmap.proofs.Means.{means-runs}
 use Rattle.regionmap.proofs.Records.{refuses, accepts}

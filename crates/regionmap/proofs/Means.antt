@@ -5,7 +5,7 @@ use mathlib.Core.Path.{_≡_, refl, ap, sym, _∙_}
 use native.Mathlib.Omega.{arith}
 use lib.ListN.{length, getD, take}
 use lib.Seq.{length-take-le, getD-take}
-use Rattle.footprint.specs.Runs.{Run, run}
+use Rattle.runs.specs.Runs.{Run, run}
 use Rattle.regionmap.specs.Map.{runsTo, placementOf, EndToEnd, fileEnd, longer}
 use Rattle.regionmap.specs.declared.RegionMap.{RegionMap}
 use Rattle.regionmap.proofs.Order.{at}

@@ -5,7 +5,7 @@ use mathlib.Core.Path.{_≡_}
 use native.Mathlib.Nat.{le-of-suc-le-suc, not-suc-le-zero}
 use native.Mathlib.Omega.{arith}
 use lib.ListN.{length, getD}
-use Rattle.footprint.specs.Runs.{Run, blankRun}
+use Rattle.runs.specs.Runs.{Run, blankRun}
 use Rattle.regionmap.specs.Map.{EndToEnd}
 use Rattle.numbers.proofs.Cases.{by-eq}
 

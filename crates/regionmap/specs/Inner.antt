@@ -3,7 +3,7 @@ use Prim.Native.Nat.{ℕ, _-_, _≤_, _<_}
 use mathlib.Core.List.{List, map}
 use mathlib.Core.Path.{_≡_}
 use lib.ListN.{length, getD, drop}
-use Rattle.footprint.specs.Runs.{Run, blankRun, runsOf}
+use Rattle.runs.specs.Runs.{Run, blankRun, runsOf}
 use Rattle.numbers.specs.Lists.{written}
 use Rattle.numbers.specs.Range.{Range, total}
 use Rattle.numbers.specs.Refusals.{eachExtent}

@@ -6,7 +6,7 @@ use mathlib.Core.Logic.{_⊎_}
 use mathlib.Core.Path.{_≡_}
 use lib.Dec.{ltb, leb, eqb}
 use lib.ListN.{length, take, drop, set}
-use Rattle.footprint.specs.Runs.{Run, run, blankRun, runsOf, runByte}
+use Rattle.runs.specs.Runs.{Run, run, blankRun, runsOf, runByte}
 use Rattle.numbers.specs.Lists.{All, listAfter}
 use Rattle.numbers.specs.Pairs.{isOdd, pairs, flat}
 use Rattle.numbers.specs.Range.{Range, range, total}

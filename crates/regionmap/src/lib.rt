@@ -6,18 +6,18 @@ mod search;
 
 use build::lay;
 use build::measure;
-use footprint::RunCount;
 use list::list_runs;
 use numbers::add_stop;
 use numbers::passes;
 use numbers::sub_stop;
+use runs::RunCount;
 use search::find;
 ghost use mathlib.Core.Path.{_≡_};
 ghost use mathlib.Core.Bool.{_||_};
 ghost use Prim.Native.Nat.{_+_, _≤_, max};
 ghost use lib.Dec.{ltb, eqb};
 ghost use lib.ListN.{length};
-ghost use Rattle.footprint.specs.Runs.{countOf};
+ghost use Rattle.runs.specs.Runs.{countOf};
 ghost use Rattle.regionmap.specs.Inner.{RunEnd};
 ghost use Rattle.regionmap.specs.Map.{Made, Roomed, Published, Extended, Answered, Written, placementOf, fileEnd};
 

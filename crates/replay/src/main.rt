@@ -3,7 +3,7 @@
 // (compare/sample writes it).
 mod aligned;
 mod checked;
-mod runs;
+mod joined;
 mod settled;
 mod sorted;
 
@@ -68,7 +68,7 @@ fn alike(module: u64, call: &[u64]) -> bool {
         1 => aligned::alike(call),
         2 => sorted::alike(call),
         3 => checked::alike(call),
-        4 => runs::alike(call),
+        4 => joined::alike(call),
         6 => settled::alike(call),
         _ => false,
     }

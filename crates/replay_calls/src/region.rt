@@ -1,10 +1,10 @@
 // The region map's calls, on one map with its lists of starts and files. A call: its number, two
 // arguments, how many places of starts and files are lent, and a list; refusal, value, the map's five
 // numbers, and the last run's start and file.
-use footprint::RunCount;
 use regionmap::Located;
 use regionmap::Mapped;
 use regionmap::RegionMap;
+use runs::RunCount;
 use sample::words::at;
 use sample::words::front;
 use sample::words::has;

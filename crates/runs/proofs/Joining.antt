@@ -7,9 +7,9 @@ use native.Mathlib.Omega.{arith}
 use lib.ListN.{length, getD, drop, set, length-append, length-map, drop-of-length-le}
 use lib.Seq.{drop-cons, append-snoc}
 use borrow.Author.Tests.{eq-eqb, ne-eqb, leb-true, eqb-true, le-leb}
-use Rattle.footprint.specs.Inner.{Reached, Joined}
-use Rattle.footprint.specs.Runs.{Run, run, notEmpty, joins, joinedTo, joined, runsFrom, runsOf, runsFail, countOf, Listed}
-use Rattle.footprint.specs.declared.RunCount.the-variants.{Runs, Refused}
+use Rattle.runs.specs.Inner.{Reached, Joined}
+use Rattle.runs.specs.Runs.{Run, run, notEmpty, joins, joinedTo, joined, runsFrom, runsOf, runsFail, countOf, Listed}
+use Rattle.runs.specs.declared.RunCount.the-variants.{Runs, Refused}
 use Rattle.numbers.specs.Lists.{written}
 use Rattle.numbers.specs.Pairs.{pairs}
 use Rattle.numbers.specs.Range.{Range, range, blank}

@@ -6,8 +6,8 @@ ghost use Prim.Native.Nat.{_<_, _≤_};
 ghost use lib.ListN.{length};
 ghost use Rattle.numbers.specs.Range.{range};
 ghost use Rattle.numbers.specs.Pairs.{pairs};
-ghost use Rattle.footprint.specs.Runs.{joins};
-ghost use Rattle.footprint.specs.Inner.{Reached, Joined};
+ghost use Rattle.runs.specs.Runs.{joins};
+ghost use Rattle.runs.specs.Inner.{Reached, Joined};
 
 // Whether an extent (next, more) goes on where a run (file, len) ends, and neither sum passes
 // 2^64 - 1. A run that ends at an offset ends below that.

@@ -9,10 +9,10 @@ use native.Mathlib.Omega.{arith}
 use lib.Dec.{eqb}
 use lib.ListN.{length, getD}
 use borrow.Author.Tests.{lt-ltb, le-ltb, eqb-true}
-use Rattle.footprint.specs.Runs.{Run, blankRun, notEmpty, joins, joinedTo, joined, runsFrom, runsOf, byteOf, Holds, runByte}
+use Rattle.runs.specs.Runs.{Run, blankRun, notEmpty, joins, joinedTo, joined, runsFrom, runsOf, byteOf, Holds, runByte}
 use Rattle.numbers.specs.Range.{Range, range, blank, total}
 use Rattle.numbers.specs.Sums.{top, stop, sum}
-use Rattle.footprint.proofs.Joining.{joins-true, true-joins}
+use Rattle.runs.proofs.Joining.{joins-true, true-joins}
 use Rattle.numbers.proofs.Cases.{cases, by-lt, clash}
 
 -- ---- joining moves no byte, and keeps the lengths together

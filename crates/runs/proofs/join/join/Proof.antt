@@ -1,10 +1,10 @@
--- `footprint::join::join` meets its contract: the runs of the extents in front of i are written.
+-- `runs::join::join` meets its contract: the runs of the extents in front of i are written.
 use Prim.Native.Nat.{_-_}
 use native.Mathlib.Omega.{arith}
 use borrow.Author.Needs.{needs}
-use Rattle.footprint.proofs.Joining.{Joining, join-begins, join-in, join-room, join-skips, join-writes, join-lengths, join-ends}
-use Rattle.footprint.proofs.join.join.Statement.{statement}
-use Rattle.footprint.proofs.join.join.Tie as tie
+use Rattle.runs.proofs.Joining.{Joining, join-begins, join-in, join-room, join-skips, join-writes, join-lengths, join-ends}
+use Rattle.runs.proofs.join.join.Statement.{statement}
+use Rattle.runs.proofs.join.join.Tie as tie
 
 abbrev Inv-loop : tie.InvT-loop
 Inv-loop extents starts₀ files₀ lens₀ n start₀ k₀ i₀ starts files lens start k i = Joining extents starts₀ starts files₀ files lens₀ lens n start k i

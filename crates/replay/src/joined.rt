@@ -1,5 +1,5 @@
 // runs: a list of extents; how many runs they make, and the runs' starts, files and lengths.
-use footprint::RunCount;
+use runs::RunCount;
 use sample::words::at;
 use sample::words::first;
 use sample::words::has;
@@ -12,7 +12,7 @@ pub(crate) fn alike(call: &[u64]) -> bool {
     let mut starts = [7u64; 32];
     let mut files = [7u64; 32];
     let mut lens = [7u64; 32];
-    let written = footprint::runs(list(call), &mut starts, &mut files, &mut lens);
+    let written = runs::runs(list(call), &mut starts, &mut files, &mut lens);
     match written {
         RunCount::Runs(n) => lists_alike(past_list(call), n as u64, &starts, &files, &lens),
         RunCount::Refused(_) => false,

@@ -5,8 +5,8 @@ use mathlib.Core.List.{List, [], _∷_, map}
 use mathlib.Core.Path.{_≡_}
 use lib.Dec.{ltb, leb, eqb}
 use lib.ListN.{length}
-use Rattle.footprint.specs.declared.RunCount.{RunCount}
-use Rattle.footprint.specs.declared.RunCount.the-variants.{Runs, Refused}
+use Rattle.runs.specs.declared.RunCount.{RunCount}
+use Rattle.runs.specs.declared.RunCount.the-variants.{Runs, Refused}
 use Rattle.numbers.specs.Lists.{listAfter}
 use Rattle.numbers.specs.Pairs.{isOdd, pairs}
 use Rattle.numbers.specs.Range.{Range, range}

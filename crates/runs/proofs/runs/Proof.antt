@@ -1,16 +1,16 @@
--- `footprint::runs` meets its contract: each refusal by its test, and the runs as `join` writes them.
+-- `runs::runs` meets its contract: each refusal by its test, and the runs as `join` writes them.
 use mathlib.Core.Bool.{false}
 use mathlib.Core.Path.{_≡_}
 use native.Mathlib.Omega.{arith}
 use lib.ListN.{length}
 use borrow.Author.Needs.{needs}
 use borrow.Author.Tests.{lt-ltb, le-ltb}
-use Rattle.footprint.specs.Runs.{runsFail}
+use Rattle.runs.specs.Runs.{runsFail}
 use Rattle.numbers.specs.Pairs.{isOdd}
-use Rattle.footprint.proofs.Joining.{runs-refused, runs-accepted}
-use Rattle.footprint.proofs.runs.Statement.{statement}
+use Rattle.runs.proofs.Joining.{runs-refused, runs-accepted}
+use Rattle.runs.proofs.runs.Statement.{statement}
 use Rattle.numbers.proofs.Pairs.{length-pairs, odd-list, even-list}
-use Rattle.footprint.proofs.runs.Tie as tie
+use Rattle.runs.proofs.runs.Tie as tie
 
 even : (c : tie.Else1) → isOdd (c .before .before .before .before .before .args .extents .now) ≡ false
 even c = even-list (c .before .before .before .before .before .args .extents .now) (c .if1 .left)

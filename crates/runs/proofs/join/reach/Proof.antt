@@ -1,4 +1,4 @@
--- `footprint::join::reach` meets its contract: the extents from i up to j are one run.
+-- `runs::join::reach` meets its contract: the extents from i up to j are one run.
 use Prim.Native.Nat.{_+_, _-_, _*_}
 use mathlib.Core.Path.{sym, _∙_}
 use native.Mathlib.Omega.{arith}
@@ -6,10 +6,10 @@ use lib.ListN.{getD}
 use borrow.Author.Needs.{needs}
 use borrow.Author.Tests.{not-true, not-false}
 use Rattle.numbers.specs.Range.{range}
-use Rattle.footprint.proofs.Joining.{joins-true, Reaching, reach-begins, reach-in, reach-skips, reach-joins, reach-stops, reach-ends}
-use Rattle.footprint.proofs.join.reach.Statement.{statement}
+use Rattle.runs.proofs.Joining.{joins-true, Reaching, reach-begins, reach-in, reach-skips, reach-joins, reach-stops, reach-ends}
+use Rattle.runs.proofs.join.reach.Statement.{statement}
 use Rattle.numbers.proofs.Pairs.{pair-in}
-use Rattle.footprint.proofs.join.reach.Tie as tie
+use Rattle.runs.proofs.join.reach.Tie as tie
 
 abbrev Inv-loop : tie.InvT-loop
 Inv-loop extents i n file len₀ j₀ len j = Reaching extents i n file len j

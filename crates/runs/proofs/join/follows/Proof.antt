@@ -1,15 +1,15 @@
--- `footprint::join::follows` meets its contract: each return is the case of `joins` that its tests chose.
+-- `runs::join::follows` meets its contract: each return is the case of `joins` that its tests chose.
 use Prim.Native.Nat.{_+_, _≤_}
 use mathlib.Core.Bool.{not}
 use mathlib.Core.Path.{_≡_, ap, _∙_}
 use native.Mathlib.Omega.{arith}
 use borrow.Author.Needs.{needs}
 use borrow.Author.Tests.{eq-eqb, ne-eqb, le-leb}
-use Rattle.footprint.specs.Runs.{joins}
+use Rattle.runs.specs.Runs.{joins}
 use Rattle.numbers.specs.Sums.{top}
-use Rattle.footprint.proofs.join.follows.Statement.{statement}
+use Rattle.runs.proofs.join.follows.Statement.{statement}
 use Rattle.numbers.proofs.Cases.{not-above}
-use Rattle.footprint.proofs.join.follows.Tie as tie
+use Rattle.runs.proofs.join.follows.Tie as tie
 
 returns : tie.Need-returns
 unfolding joins

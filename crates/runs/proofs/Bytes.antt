@@ -9,12 +9,12 @@ use native.Mathlib.Omega.{arith}
 use lib.Dec.{eqb}
 use lib.ListN.{length, getD}
 use borrow.Author.Tests.{eq-eqb, ne-eqb}
-use Rattle.footprint.specs.Runs.{Run, blankRun, notEmpty, joins, joinedTo, joined, runsFrom, runsOf, byteOf}
+use Rattle.runs.specs.Runs.{Run, blankRun, notEmpty, joins, joinedTo, joined, runsFrom, runsOf, byteOf}
 use Rattle.numbers.specs.Lists.{All, Any}
 use Rattle.numbers.specs.Range.{Range, range, blank, Has, Meet, Disjoint, total}
 use Rattle.numbers.specs.Sums.{top, sum}
-use Rattle.footprint.proofs.Joining.{joins-true, true-joins}
-use Rattle.footprint.proofs.Positions.{byte-here, byte-later, runs-apart, total-joined, total-notEmpty}
+use Rattle.runs.proofs.Joining.{joins-true, true-joins}
+use Rattle.runs.proofs.Positions.{byte-here, byte-later, runs-apart, total-joined, total-notEmpty}
 use Rattle.numbers.proofs.Cases.{cases, by-lt, by-eq, clash}
 use Rattle.numbers.proofs.Disjoint.{MeetsNone}
 use Rattle.numbers.proofs.Lists.{all-at, all-imp, all-none}
