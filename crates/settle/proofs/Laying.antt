@@ -53,7 +53,7 @@ module _ {rs : List Range} {at count owner first n : ℕ} {s₀ s : List ℕ} {k
   pub laying-far : k < count → n + (first + k) < length (pairs s₀)
   laying-far h = omega (arith, g .room, g .space)
 
-  pub laying-end : (s₁ : List ℕ) → k < count → length s₁ ≡ length s → n + (first + k) < length (pairs s₁)
+  laying-end : (s₁ : List ℕ) → k < count → length s₁ ≡ length s → n + (first + k) < length (pairs s₁)
   laying-end s₁ h l = let e = same-pairs s₁ s₀ (l ∙ g .size) in omega (arith, laying-far h)
 
   pub laying-on : (s₁ s₂ : List ℕ) (x y e : ℕ) → k < count
