@@ -13,7 +13,7 @@ ghost use Rattle.accounting.specs.Entries.{Counts, noTags, usage, usages, ready
 ghost use Rattle.tagspace.specs.Extent.{extentLen};
 ghost use Rattle.tagspace.specs.Row.{blank, addUsage, removeUsage, reserve, unreserve, setCap, fits};
 ghost use Rattle.accounting.specs.Table.{Valid, Posts, Asks, accountsOf, tableOf, onRow, reserving, unreserving, rowOf};
-ghost use Rattle.exports.specs.Each.{ruleOf, PostsEach, questions, AsksEach};
+ghost use Rattle.exports.specs.Each.{PostsEach, questions, AsksEach};
 ghost use Rattle.exports.specs.Flat.{flatOf};
 ghost use Rattle.exports.specs.Accounts.{capFrom, rowFrom, accountsFrom, flatRow, flatAccounts, flatPosted, flatAsked, FlatPosts, FlatAsks};
 
@@ -393,21 +393,21 @@ pub extern "C" fn fundravai_accounts_post_each(
     let mut refusal = 0;
     let mut i = 0;
     while i < tags.len() {
-        let posted = post(accounts, remove, tags[i], logical[i], physical[i]);
-        refusal = posted.refusal;
-        accounts = posted.accounts;
+        let tag = tags[i];
+        let more = logical[i];
+        let bytes = physical[i];
         i += 1;
+        if remove {
+            let posted = accounts.remove_usage(tag, more, bytes);
+            refusal = posted.refusal;
+            accounts = posted.accounts;
+        } else {
+            let posted = accounts.add_usage(tag, more, bytes);
+            refusal = posted.refusal;
+            accounts = posted.accounts;
+        }
     }
     flat_posted(Posted { refusal, accounts })
-}
-
-fn post(accounts: Accounting, remove: bool, tag: u32, logical: u64, physical: u64) -> Posted
-    ensures { λ r. ⌜ Posts accounts (onRow tag (ruleOf remove (usage tag logical physical))) r ⌝ }
-{
-    if remove {
-        return accounts.remove_usage(tag, logical, physical);
-    }
-    accounts.add_usage(tag, logical, physical)
 }
 
 // Asks for each tag in turn; answers the last refusal, and how many fit.

@@ -33,35 +33,44 @@ accounts-from-requires c κs = search needs
 loop-holds : tie.Need-loop-holds Inv-loop μ-loop
 loop-holds c = (omega arith, going-begins (Post (c .before .before .before .before .before .before .args .remove)) _ _ _ refl)
 
-mul-post : tie.Need-mul-post Inv-loop μ-loop
-mul-post c = omega (arith, c .loop-test .taken)
+mul-tag : tie.Need-mul-tag Inv-loop μ-loop
+mul-tag c = omega (arith, c .loop-test .taken)
 
-shared-slice-read-post : tie.Need-shared-slice-read-post Inv-loop μ-loop
-shared-slice-read-post c = omega (arith, c .before .loop-test .taken, c .before .before .before .before .before .if1 .left, c .before .before .before .before .if2 .left)
+shared-slice-read-tag : tie.Need-shared-slice-read-tag Inv-loop μ-loop
+shared-slice-read-tag c = omega (arith, c .before .loop-test .taken)
 
-mul-post-2 : tie.Need-mul-post-2 Inv-loop μ-loop
-mul-post-2 c = omega (arith, c .before .loop-test .taken)
+mul-more : tie.Need-mul-more Inv-loop μ-loop
+mul-more c = omega (arith, c .before .loop-test .taken)
 
-shared-slice-read-post-2 : tie.Need-shared-slice-read-post-2 Inv-loop μ-loop
-shared-slice-read-post-2 c = omega (arith, c .before .before .loop-test .taken, c .before .before .before .before .before .before .if1 .left, c .before .before .before .before .before .if2 .left)
+shared-slice-read-more : tie.Need-shared-slice-read-more Inv-loop μ-loop
+shared-slice-read-more c = omega (arith, c .before .before .loop-test .taken, c .before .before .before .before .before .before .if1 .left)
 
-mul-post-3 : tie.Need-mul-post-3 Inv-loop μ-loop
-mul-post-3 c = omega (arith, c .before .before .loop-test .taken)
+mul-bytes : tie.Need-mul-bytes Inv-loop μ-loop
+mul-bytes c = omega (arith, c .before .before .loop-test .taken)
 
-shared-slice-read-post-3 : tie.Need-shared-slice-read-post-3 Inv-loop μ-loop
-shared-slice-read-post-3 c = omega (arith, c .before .before .before .loop-test .taken, c .before .before .before .before .before .before .before .if1 .left, c .before .before .before .before .before .before .if2 .left)
-
-post-requires : tie.Need-post-requires Inv-loop μ-loop
-post-requires c κs = search needs
+shared-slice-read-bytes : tie.Need-shared-slice-read-bytes Inv-loop μ-loop
+shared-slice-read-bytes c = omega (arith, c .before .before .before .loop-test .taken, c .before .before .before .before .before .before .before .if1 .left, c .before .before .before .before .before .before .if2 .left)
 
 add-i : tie.Need-add-i Inv-loop μ-loop
-add-i c = omega (arith, c .before .before .before .before .before .loop-test .taken)
+add-i c = omega (arith, c .before .before .before .loop-test .taken)
+
+remove-usage-requires : tie.Need-remove-usage-requires Inv-loop μ-loop
+remove-usage-requires c κs = search needs
 
 loop-less : tie.Need-loop-less Inv-loop μ-loop
-loop-less c = omega (arith, c .before .before .before .before .before .loop-test .taken)
+loop-less c = omega (arith, c .before .before .before .before .before .before .loop-test .taken)
 
 loop-again : tie.Need-loop-again Inv-loop μ-loop
-loop-again c = let v = c .before .before .before .before .before .before .loop .inv in (omega (arith, c .before .before .before .before .before .loop-test .taken), going-on (Post (c .before .before .before .before .before .before .before .before .before .before .before .before .before .args .remove)) _ _ (v .1) (usages-next _ _ _ _ (c .before .before .before .before .before .loop-test .taken)) (c .before .post .ensures))
+loop-again c = (omega (arith, c .before .before .before .before .before .before .loop-test .taken), going-on (Post (c .before .before .before .before .before .before .before .before .before .before .before .before .before .before .args .remove)) _ _ (c .before .before .before .before .before .before .before .loop .inv .1) (usages-next _ _ _ _ (c .before .before .before .before .before .before .loop-test .taken)) (rw (c .before .before .if3 .taken) (c .before .remove-usage .ensures)))
+
+add-usage-requires : tie.Need-add-usage-requires Inv-loop μ-loop
+add-usage-requires c κs = search needs
+
+loop-less-2 : tie.Need-loop-less-2 Inv-loop μ-loop
+loop-less-2 c = omega (arith, c .before .before .before .before .before .before .loop-test .taken)
+
+loop-again-2 : tie.Need-loop-again-2 Inv-loop μ-loop
+loop-again-2 c = (omega (arith, c .before .before .before .before .before .before .loop-test .taken), going-on (Post (c .before .before .before .before .before .before .before .before .before .before .before .before .before .before .args .remove)) _ _ (c .before .before .before .before .before .before .before .loop .inv .1) (usages-next _ _ _ _ (c .before .before .before .before .before .before .loop-test .taken)) (rw (c .before .before .if3 .left) (c .before .add-usage .ensures)))
 
 flat-posted-requires : tie.Need-flat-posted-requires Inv-loop μ-loop
 flat-posted-requires c κs = search needs
@@ -80,15 +89,18 @@ fundravai-accounts-post-each-spec =
     returns-2
     accounts-from-requires
     loop-holds
-    mul-post
-    shared-slice-read-post
-    mul-post-2
-    shared-slice-read-post-2
-    mul-post-3
-    shared-slice-read-post-3
-    post-requires
+    mul-tag
+    shared-slice-read-tag
+    mul-more
+    shared-slice-read-more
+    mul-bytes
+    shared-slice-read-bytes
     add-i
+    remove-usage-requires
     loop-less
     loop-again
+    add-usage-requires
+    loop-less-2
+    loop-again-2
     flat-posted-requires
     returns-3)
