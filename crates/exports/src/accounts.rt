@@ -2,20 +2,19 @@
 use crate::FlatAnswer;
 use crate::FlatOption;
 use accounting::Accounting;
-use accounting::Asked;
 use accounting::Posted;
 use tagspace::Cap;
 use tagspace::ExtentLen;
 use tagspace::TagSpace;
 ghost use mathlib.Core.Path.{_≡_};
 ghost use lib.ListN.{getD};
-ghost use Rattle.accounting.specs.Entries.{Counts, noTags, usage, usages, readyUsages, differ, addedLen, removedLen};
+ghost use Rattle.accounting.specs.Entries.{Counts, noTags, usages, readyUsages, differ, addedLen, removedLen};
 ghost use Rattle.tagspace.specs.Extent.{extentLen};
 ghost use Rattle.tagspace.specs.Row.{blank, addUsage, removeUsage, reserve, unreserve, setCap, fits};
 ghost use Rattle.accounting.specs.Table.{Valid, Posts, Asks, accountsOf, tableOf, onRow, reserving, unreserving, rowOf};
 ghost use Rattle.exports.specs.Each.{PostsEach, questions, AsksEach};
 ghost use Rattle.exports.specs.Flat.{flatOf};
-ghost use Rattle.exports.specs.Accounts.{capFrom, rowFrom, accountsFrom, flatRow, flatAccounts, flatPosted, flatAsked, FlatPosts, FlatAsks};
+ghost use Rattle.exports.specs.Accounts.{capFrom, rowFrom, accountsFrom, flatRow, flatAccounts, flatPosted, FlatPosts, FlatAsks};
 
 #[repr(C)]
 pub struct FlatRow {
@@ -394,15 +393,15 @@ pub extern "C" fn fundravai_accounts_post_each(
     let mut i = 0;
     while i < tags.len() {
         let tag = tags[i];
-        let more = logical[i];
-        let bytes = physical[i];
+        let data_bytes = logical[i];
+        let occupied = physical[i];
         i += 1;
         if remove {
-            let posted = accounts.remove_usage(tag, more, bytes);
+            let posted = accounts.remove_usage(tag, data_bytes, occupied);
             refusal = posted.refusal;
             accounts = posted.accounts;
         } else {
-            let posted = accounts.add_usage(tag, more, bytes);
+            let posted = accounts.add_usage(tag, data_bytes, occupied);
             refusal = posted.refusal;
             accounts = posted.accounts;
         }

@@ -5,7 +5,6 @@ use crate::flat_count;
 use regionmap::Located;
 use regionmap::Mapped;
 use regionmap::RegionMap;
-ghost use mathlib.Core.Path.{_≡_};
 ghost use Rattle.regionmap.specs.Map.{Made, Roomed, Published, Extended, Written};
 ghost use Rattle.numbers.specs.Pairs.{pairs};
 ghost use Rattle.exports.specs.Each.{Chain, Extend, extending, Publish, publishing, LocatedEach};
