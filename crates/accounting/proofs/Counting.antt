@@ -9,16 +9,16 @@ use lib.Seq.{drop-drop}
 use borrow.Author.Tests.{eq-eqb, ne-eqb}
 use Rattle.accounting.specs.Entries.{Usage, Counts, usage, usages, readyUsages, addedLen, addAll, noTags, differ}
 use Rattle.accounting.specs.Inner.{Sought, inserted}
-use Rattle.accounting.specs.Table.{Table, Valid, Posts, accountsOf, tableOf, onRow}
+use Rattle.accounting.specs.Table.{Table, Valid, Posts, accountsOf, tableOf, tagOf, onRow}
 use Rattle.accounting.specs.declared.Accounting.{Accounting}
 use Rattle.accounting.specs.declared.Posted.{Posted}
 use Rattle.accounting.specs.declared.table.Spot.{Spot}
 use Rattle.tagspace.specs.Row.{blank, addUsage}
 use Rattle.tagspace.specs.declared.TagSpace.{TagSpace}
 use Rattle.accounting.proofs.Handing.{handed-fit, handed-full, posts-known, posts-unknown}
-use Rattle.accounting.proofs.Rows.{put-more}
 use Rattle.accounting.proofs.Tables.{table-accounts, accounts-valid, count-rows}
 use Rattle.numbers.proofs.Cases.{by-lt}
+use Rattle.numbers.proofs.Keyed.{put-more}
 use Rattle.numbers.proofs.Lists.{from-here, at-front}
 
 -- ---- the rows grow no fewer
@@ -28,7 +28,7 @@ unfolding addAll onRow
 add-more [] t = omega arith
 add-more (u ∷ us) t =
     let n : Table = onRow (u .tag) (addUsage (u .logical) (u .physical)) t in
-    let h : length (t .rows) ≤ length (n .rows) = put-more _ (t .rows) in
+    let h : length (t .rows) ≤ length (n .rows) = put-more tagOf _ (t .rows) in
     let k : length (n .rows) ≤ length (addAll us n .rows) = add-more us n in
     omega (arith, h, k)
 

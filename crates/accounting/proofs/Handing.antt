@@ -9,18 +9,18 @@ use lib.ListN.{length, getD, take, drop, set, replicate, length-append, length-t
 use lib.Seq.{set-append-left, set-getD}
 use borrow.Author.Tests.{lt-ltb, le-ltb, eq-eqb, ne-eqb}
 use Rattle.accounting.specs.Inner.{Sought, posted, shifted, inserted}
-use Rattle.tagspace.specs.Row.{blank, allows, fits}
-use Rattle.accounting.specs.Table.{Table, InTagOrder, Valid, Posts, Asks, accountsOf, tableOf, rowOf, put, onRow, withTotal, same, handed, asked}
+use Rattle.accounting.specs.Table.{Table, InTagOrder, Valid, Posts, Asks, accountsOf, tableOf, tagOf, rowOf, put, onRow, withTotal, same, handed, asked}
 use Rattle.accounting.specs.declared.Accounting.{Accounting}
 use Rattle.accounting.specs.declared.Posted.{Posted}
 use Rattle.accounting.specs.declared.posting.Posting.{Posting}
 use Rattle.accounting.specs.declared.posting.Posting.the-variants.{AddUsage, RemoveUsage, Reserve, Unreserve, SetCap}
-use Rattle.tagspace.specs.declared.TagSpace.{TagSpace}
 use Rattle.accounting.specs.declared.table.Spot.{Spot}
-use Rattle.accounting.proofs.Rows.{row-known, put-known, row-unknown, put-unknown, put-order}
+use Rattle.tagspace.specs.Row.{blank, allows, fits}
+use Rattle.tagspace.specs.declared.TagSpace.{TagSpace}
 use Rattle.accounting.proofs.Shifting.{shifted-blanks}
 use Rattle.accounting.proofs.Tables.{accounts-valid, count-rows, all-rows, row-of-record}
 use Rattle.numbers.proofs.Cases.{by-lt, by-eq}
+use Rattle.numbers.proofs.Keyed.{keyed-known, put-known, keyed-unknown, put-unknown, put-order}
 
 -- a rule that leaves the tag as it is
 abbrev pub KeepsTag : (TagSpace → TagSpace) → Type 0
@@ -54,7 +54,7 @@ posts a next r keeps e =
 
 pub on-row-order : (tag : ℕ) (rule : TagSpace → TagSpace) (t : Table) → InTagOrder (t .rows) → InTagOrder (onRow tag rule t .rows)
 unfolding onRow
-on-row-order tag rule t o = put-order (rule (rowOf tag (t .rows))) (t .rows) o
+on-row-order tag rule t o = put-order tagOf (rule (rowOf tag (t .rows))) (t .rows) o
 
 -- a record by its parts
 made-of : (rs : List TagSpace) (n m : ℕ) (t : Table) → rs ≡ t .rows ++ replicate (96 - length (t .rows)) (blank 0) → n ≡ length (t .rows) → m ≡ t .total → record { rows = rs; count = n; reserved = m } ≡ accountsOf t
@@ -95,13 +95,13 @@ module _ (a : Accounting) (v : Valid a) (tag : ℕ) (s : Spot) (f : Sought a tag
     has-tag = subst (λ (r : TagSpace). r .tag ≡ tag) (row-of-record a v (s .at)) (f .own z)
 
     pub found-row : rowOf tag xs ≡ getD (a .rows) (s .at) (blank 0)
-    found-row = row-known xs (v .order) (s .at) tag (blank 0) in-rows has-tag ∙ sym (row-of-record a v (s .at))
+    found-row = keyed-known tagOf xs (v .order) (s .at) tag (blank 0) in-rows has-tag (blank tag) ∙ sym (row-of-record a v (s .at))
 
     pub post-known : (rule : TagSpace → TagSpace) → KeepsTag rule → (x : TagSpace) → x ≡ rule (getD (a .rows) (s .at) (blank 0)) → record { refusal = 0; accounts = record { rows = set (a .rows) (s .at) x; count = a .count; reserved = a .reserved } } ≡ handed (tableOf a) (onRow tag rule (tableOf a))
     unfolding onRow
     post-known rule keeps x q =
         let t : x .tag ≡ tag = ap (λ (r : TagSpace). r .tag) q ∙ keeps (getD (a .rows) (s .at) (blank 0)) ∙ f .own z in
-        let p : put (rule (rowOf tag xs)) xs ≡ set xs (s .at) x = ap (λ (r : TagSpace). put (rule r) xs) found-row ∙ ap (λ (r : TagSpace). put r xs) (sym q) ∙ put-known xs (v .order) (s .at) tag (blank 0) in-rows has-tag x t in
+        let p : put (rule (rowOf tag xs)) xs ≡ set xs (s .at) x = ap (λ (r : TagSpace). put (rule r) xs) found-row ∙ ap (λ (r : TagSpace). put r xs) (sym q) ∙ put-known tagOf xs (v .order) (s .at) tag (blank 0) in-rows has-tag x t in
         let n : length (put (rule (rowOf tag xs)) xs) ≡ length xs = ap length p ∙ length-set xs (s .at) x in
         let c = count-rows a v in
         ap (λ (b : Accounting). record { refusal = 0; accounts = b })
@@ -117,14 +117,14 @@ module _ (a : Accounting) (v : Valid a) (tag : ℕ) (s : Spot) (f : Sought a tag
   -- it has none
   module _ (z : s .known ≡ false) where
     pub no-row : rowOf tag xs ≡ blank tag
-    no-row = row-unknown xs (s .at) tag (f .lower z v) (f .higher z v)
+    no-row = keyed-unknown tagOf xs (s .at) tag (f .lower z v) (f .higher z v) (blank tag)
 
     module _ (rule : TagSpace → TagSpace) (keeps : KeepsTag rule) (x : TagSpace) (q : x ≡ rule (blank tag)) where
       put-new : put (rule (rowOf tag xs)) xs ≡ take (s .at) xs ++ (x ∷ drop (s .at) xs)
       put-new =
           ap (λ (r : TagSpace). put (rule r) xs) no-row
           ∙ ap (λ (r : TagSpace). put r xs) (sym q)
-          ∙ put-unknown xs (s .at) tag (f .lower z v) (f .higher z v) x (ap (λ (r : TagSpace). r .tag) q ∙ keeps (blank tag))
+          ∙ put-unknown tagOf xs (s .at) tag (f .lower z v) (f .higher z v) x (ap (λ (r : TagSpace). r .tag) q ∙ keeps (blank tag))
 
       one-more : length (put (rule (rowOf tag xs)) xs) ≡ suc (length xs)
       one-more = ap length put-new ∙ simp (length-append, length-take, length-drop) (omega (arith, place-in))

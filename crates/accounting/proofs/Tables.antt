@@ -7,14 +7,14 @@ use native.Mathlib.Omega.{arith}
 use lib.ListN.{length, getD, take, drop, replicate, length-drop, List·getD-map, List·getD-eq-default}
 use lib.Seq.{take-append-seam, getD-take, getD-drop, length-take-le}
 use Rattle.accounting.specs.Inner.{Lower, Higher, Sought, tagsOf}
-use Rattle.tagspace.specs.Row.{blank}
-use Rattle.accounting.specs.Table.{Table, InTagOrder, Valid, accountsOf, tableOf}
+use Rattle.accounting.specs.Table.{Table, InTagOrder, Valid, accountsOf, tableOf, tagOf}
 use Rattle.accounting.specs.declared.Accounting.{Accounting}
-use Rattle.tagspace.specs.declared.TagSpace.{TagSpace}
 use Rattle.numbers.specs.Search.{Rising, Found}
-use Rattle.accounting.proofs.Rows.{order-front}
+use Rattle.tagspace.specs.Row.{blank}
+use Rattle.tagspace.specs.declared.TagSpace.{TagSpace}
 use Rattle.numbers.proofs.Cases.{clash, by-eq}
-use Rattle.numbers.proofs.Lists.{all-at, all-of}
+use Rattle.numbers.proofs.Keyed.{order-at}
+use Rattle.numbers.proofs.Lists.{all-of}
 
 pub table-accounts : (t : Table) → tableOf (accountsOf t) ≡ t
 unfolding tableOf accountsOf
@@ -62,16 +62,10 @@ module _ (a : Accounting) (v : Valid a) where
   tag-of-record : (i : ℕ) → getD (tagsOf a) i 0 ≡ getD xs i (blank 0) .tag
   tag-of-record i = tag-at a i ∙ ap (λ (r : TagSpace). r .tag) (row-of-record i)
 
-  lower-tag : (i j : ℕ) → i < j → j < length xs → getD xs i (blank 0) .tag < getD xs j (blank 0) .tag
-  lower-tag i j h l =
-      let n : length (take j xs) ≡ j = length-take-le j xs (omega arith) in
-      subst (λ (r : TagSpace). r .tag < getD xs j (blank 0) .tag) (getD-take j xs i (blank 0) h)
-      (all-at (λ (q : TagSpace). q .tag < getD xs j (blank 0) .tag) (take j xs) i (blank 0) (order-front xs (v .order) j (blank 0) l) (omega arith))
-
   rising : Rising (tagsOf a) (a .count)
   rising i j h l =
       rw (tag-of-record i, tag-of-record j)
-      (by-eq i j (λ e. rw e (omega arith)) (λ n. let s = lower-tag i j (omega arith) (omega (arith, count-rows)) in omega (arith, s)))
+      (by-eq i j (λ e. rw e (omega arith)) (λ n. let s = order-at tagOf xs (v .order) i j (blank 0) (omega arith) (omega (arith, count-rows)) in omega (arith, s)))
 
   module _ (tag k : ℕ) (f : Found (tagsOf a) (a .count) tag k) where
     place-in : k ≤ length xs
@@ -90,7 +84,7 @@ module _ (a : Accounting) (v : Valid a) where
           rw (getD-take k xs i (blank 0) (omega arith))
           (by-eq i (k - 1)
           (λ e. rw e (let b = at-or-below (omega arith) in by-eq (getD xs (k - 1) (blank 0) .tag) tag (λ z. absurd (other (omega arith) z)) (λ z. omega arith)))
-          (λ e. let b = at-or-below (omega arith) in let s = lower-tag i (k - 1) (omega arith) (omega (arith, place-in)) in omega arith)))
+          (λ e. let b = at-or-below (omega arith) in let s = order-at tagOf xs (v .order) i (k - 1) (blank 0) (omega arith) (omega (arith, place-in)) in omega arith)))
 
       rows-higher : Higher tag (drop k xs)
       rows-higher =

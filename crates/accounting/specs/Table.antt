@@ -1,8 +1,8 @@
 -- Document 01, "Accounts for at most 96 tags travel as one record, in tag order": what a record means, and what a call on a tag
 -- makes of it.
-use Prim.Native.Nat.{ℕ, _+_, _-_, _≤_, _<_}
+use Prim.Native.Nat.{ℕ, _+_, _-_, _≤_}
 use mathlib.Core.Bool.{Bool, cond, _&&_}
-use mathlib.Core.List.{List, [], _∷_, _++_}
+use mathlib.Core.List.{List, _++_}
 use mathlib.Core.Path.{_≡_}
 use lib.Dec.{ltb, eqb}
 use lib.ListN.{length, take, replicate}
@@ -11,7 +11,7 @@ use Rattle.accounting.specs.declared.Accounting.{Accounting}
 use Rattle.accounting.specs.declared.Asked.{Asked}
 use Rattle.accounting.specs.declared.Posted.{Posted}
 use Rattle.tagspace.specs.declared.TagSpace.{TagSpace}
-use Rattle.numbers.specs.Lists.{All, Any}
+use Rattle.numbers.specs.Keyed.{HasKey, InKeyOrder, keyed, putKeyed}
 use Rattle.numbers.specs.Sums.{stop}
 
 -- What accounts mean: a row for each tag that has one, in tag order, and the bytes reserved of all tags.
@@ -27,10 +27,13 @@ accountsOf t = record { rows = t .rows ++ replicate (96 - length (t .rows)) (bla
 unfoldable pub tableOf : Accounting → Table
 tableOf a = record { rows = take (a .count) (a .rows); total = a .reserved }
 
+-- A row's key is its tag.
+abbrev pub tagOf : TagSpace → ℕ
+tagOf r = r .tag
+
 -- "in tag order", one row a tag.
 abbrev pub InTagOrder : List TagSpace → Type 0
-InTagOrder [] = Unit {0}
-InTagOrder (r ∷ rs) = All (λ (q : TagSpace). r .tag < q .tag) rs × InTagOrder rs
+InTagOrder rs = InKeyOrder tagOf rs
 
 -- A record that a call handed back: that of a table of "at most 96 tags" in order.
 pub record Valid (a : Accounting) : Type 0 where
@@ -40,17 +43,16 @@ pub record Valid (a : Accounting) : Type 0 where
 
 -- A tag is known: it has a row.
 abbrev pub HasRow : ℕ → List TagSpace → Type 0
-HasRow tag rs = Any (λ (r : TagSpace). r .tag ≡ tag) rs
+HasRow tag rs = HasKey tagOf tag rs
 
--- The row of a tag, a blank one where it has none; `row-there` and `row-blank` (proofs/Words) say so.
-unfoldable pub rowOf : ℕ → List TagSpace → TagSpace
-rowOf tag [] = blank tag
-rowOf tag (r ∷ rs) = cond (eqb (r .tag) tag) r (rowOf tag rs)
+-- The row of a tag, a blank one where it has none; `keyed-there` and `keyed-none` (proofs/Keyed of `numbers`) say so.
+abbrev pub rowOf : ℕ → List TagSpace → TagSpace
+rowOf tag rs = keyed tagOf (blank tag) tag rs
 
--- The rows with one put in its place, over the row of the same tag where there is one; `put-order` (proofs/Rows): in order still.
-unfoldable pub put : TagSpace → List TagSpace → List TagSpace
-put x [] = x ∷ []
-put x (r ∷ rs) = cond (ltb (r .tag) (x .tag)) (r ∷ put x rs) (x ∷ cond (eqb (r .tag) (x .tag)) rs (r ∷ rs))
+-- The rows with one put in its place, over the row of the same tag where there is one; `put-order` (proofs/Keyed of `numbers`):
+-- in order still.
+abbrev pub put : TagSpace → List TagSpace → List TagSpace
+put x rs = putKeyed tagOf x rs
 
 -- "Every call on a tag .. makes a row for an unknown one": the table with a rule carried out on the tag's row. `own-row` and
 -- `other-row` (proofs/Words) say what each tag's row is then.

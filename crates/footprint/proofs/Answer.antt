@@ -24,6 +24,7 @@ use Rattle.numbers.specs.Sums.{top}
 use Rattle.footprint.proofs.Overlap.{Solid, neighbours-decide, overlaps-sorted}
 use Rattle.footprint.proofs.Passed.{Passed, Inside, all-pass}
 use Rattle.numbers.proofs.Answers.{answer-value, answer-number, number-told, accepts-told}
+use Rattle.numbers.proofs.Cases.{by-eq}
 use Rattle.numbers.proofs.Lists.{all-both}
 use Rattle.numbers.proofs.Pairs.{length-flat, pair-at, pair-in}
 use Rattle.numbers.proofs.Refusals.{first-one, first-go, first-stop, first-parts, first-low, refuse-none, refuse-low, each-low}
@@ -47,6 +48,12 @@ module _ (lim : Limits) (id : ℕ) (e : Entry) (h : Header) (xs : List ℕ) (pla
   not-last =
       first-low 13 before (omega arith)
       (refuse-low 13 1 _ (omega arith), (refuse-low 13 2 _ (omega arith), (refuse-low 13 4 _ (omega arith), (refuse-low 13 5 _ (omega arith), (refuse-low 13 6 _ (omega arith), (refuse-low 13 7 _ (omega arith), (refuse-low 13 8 _ (omega arith), (refuse-low 13 9 _ (omega arith), (refuse-low 13 10 _ (omega arith), (each-low (outside lim e) 0 (committed e xs), (refuse-low 13 12 _ (omega arith), tt)))))))))))
+
+  pub refusal-most : refusalOf lim id e h xs places ≤ 13
+  refusal-most =
+      by-eq (beforeLast lim id e h xs places) 0
+      (λ z. let k = refuse-low 14 13 (overlaps (ranges lim e xs)) (omega arith) in omega (arith, late z))
+      (λ d. omega (arith, early d, not-last))
 
   -- of an accepted region no test failed
   pub none-failed : refusalOf lim id e h xs places ≡ 0 → (first before ≡ 0) × (first (overlapTests (ranges lim e xs)) ≡ 0)

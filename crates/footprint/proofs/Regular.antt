@@ -108,11 +108,11 @@ module _ (lim : Limits) (id : ℕ) (e : Entry) (h : Header) (xs : List ℕ) (pla
 -- ---- to the refusal: each test passes
 
 module _ (lim : Limits) (e : Entry) (h : Header) (xs : List ℕ) where
-  lists-fine : (places : ℕ) → Lists lim e h xs places → listsFail lim e h xs places ≡ false
+  pub lists-fine : (places : ℕ) → Lists lim e h xs places → listsFail lim e h xs places ≡ false
   unfolding listsFail
   lists-fine places l = simp (l .even, eq-eqb _ _ (l .listed), le-ltb _ _ (l .few), le-ltb _ _ (l .header-few), le-ltb _ _ (l .room))
 
-  logs-fine : Logs lim h → logsFail lim h ≡ false
+  pub logs-fine : Logs lim h → logsFail lim h ≡ false
   unfolding logsFail
   logs-fine l =
       ⊎-elim (λ (d : h .«log2_block» ≡ 9). simp (le-ltb _ _ (l .low), le-ltb _ _ (l .high), eq-eqb _ _ d))

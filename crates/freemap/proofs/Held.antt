@@ -2,17 +2,16 @@
 use Prim.Native.Nat.{ℕ, zero, suc, _+_, _-_, _≤_, min, max}
 use mathlib.Core.Bool.{Bool, true, false, _||_}
 use mathlib.Core.List.{List, [], _∷_, _++_}
-use mathlib.Core.Logic.{inl, inr}
 use mathlib.Core.Path.{_≡_, refl, ap, sym, _∙_}
 use native.Mathlib.Omega.{arith}
 use Rattle.freemap.specs.Bytes.{counted}
-use Rattle.freemap.specs.Gaps.{Covered, covered, gapsOf}
+use Rattle.freemap.specs.Gaps.{covered, gapsOf}
 use Rattle.numbers.specs.Lists.{All, any}
-use Rattle.numbers.specs.Range.{Range, endOf, Has, has, Disjoint, Within, total}
+use Rattle.numbers.specs.Range.{Range, endOf, has, Disjoint, Within, total}
 use Rattle.numbers.specs.Sums.{top, sum}
 use Rattle.freemap.proofs.Words.{covered-true, free-and-covered}
 use Rattle.numbers.proofs.Cases.{cases, by-lt, clash}
-use Rattle.numbers.proofs.Disjoint.{MeetsNone, disjoint-middle, disjoint-without}
+use Rattle.numbers.proofs.Disjoint.{MeetsNone, none-shared, disjoint-middle, disjoint-without}
 use Rattle.numbers.proofs.Lists.{any-append, or-swap}
 use Rattle.numbers.proofs.Ranges.{end-exact, has-true, true-has}
 
@@ -55,12 +54,6 @@ unfolding covered any
 covered-with xs y ys b =
     let f : Range → Bool = λ r. has r b in
     any-append f xs (y ∷ ys) ∙ or-swap (any f xs) (f y) (any f ys) ∙ ap (λ (t : Bool). f y || t) (sym (any-append f xs ys))
-
--- a byte of a range that meets no other is in no other
-none-shared : (y : Range) (rs : List Range) → MeetsNone y rs → (x : ℕ) → Has y x → Covered rs x → ⊥
-none-shared y [] n x h c = c
-none-shared y (r ∷ rs) n x h (inl c) = n .0 (record { byte = x; left = h; right = c })
-none-shared y (r ∷ rs) n x h (inr c) = none-shared y rs (n .1) x h c
 
 module _ (te len : ℕ) (small : len ≤ top) where
   -- The bytes of [table end, length) that some range has.

@@ -6,7 +6,7 @@ use Rattle.runs.specs.Runs.{notEmpty, joins, joinedTo, joined, runsFrom, runsFa
 use Rattle.freemap.specs.Fit.{placeIn, skipped, allows, firstFit, fitRefusal}
 use Rattle.freemap.specs.Gaps.{covered, ahead, maximal, tailOf, complementFails, tooFew}
 use Rattle.marks.specs.Marks.{Marks}
-use Rattle.numbers.specs.Lists.{any, same}
+use Rattle.numbers.specs.Lists.{any, keep, same}
 use Rattle.numbers.specs.Order.{precedes}
 use Rattle.numbers.specs.Pairs.{pairs, flat}
 use Rattle.numbers.specs.Powers.{isPower}
@@ -15,7 +15,7 @@ use Rattle.numbers.specs.Refusals.{refuse, first, answer, eachExtent}
 use Rattle.numbers.specs.Sums.{sum}
 use Rattle.regionmap.specs.Map.{runsTo, tooFew as tooFewPlaces, extentsFail, passesTop, fromRefusal, lastAt, locateRefusal}
 use Rattle.settle.specs.Regions.{regions, piecesFrom}
-use Rattle.settle.specs.Settle.{anyOther, overlapped, superseded, keep, highest, renamed, marksFrom, tooLong, lentFails, settleFails}
+use Rattle.settle.specs.Settle.{anyOther, overlapped, superseded, highest, renamed, marksFrom, tooLong, lentFails, settleFails}
 use Rattle.sort.specs.Sort.{insert, sorted}
 
 pub marks : Marks

@@ -1,14 +1,12 @@
 -- Lists of ranges of which no two meet: at their places, in parts, with one more.
-use Prim.Native.Nat.{ℕ, zero, suc, _<_}
+use Prim.Native.Nat.{ℕ, _<_}
 use mathlib.Core.List.{List, [], _∷_, _++_}
+use mathlib.Core.Logic.{inl, inr}
 use mathlib.Core.Path.{_≡_}
-use native.Mathlib.Nat.{le-of-suc-le-suc, not-suc-le-zero}
-use native.Mathlib.Omega.{arith}
 use lib.ListN.{length, getD}
-use Rattle.numbers.specs.Lists.{All}
-use Rattle.numbers.specs.Range.{Range, blank, Meet, Disjoint}
-use Rattle.numbers.proofs.Cases.{by-lt}
-use Rattle.numbers.proofs.Lists.{all-append, all-left, all-right, all-at, all-of}
+use Rattle.numbers.specs.Lists.{All, Any}
+use Rattle.numbers.specs.Range.{Range, blank, Has, Meet, Disjoint}
+use Rattle.numbers.proofs.Lists.{all-append, all-left, all-right, at-pairwise, pairwise-at}
 use Rattle.numbers.proofs.Ranges.{meet-sym}
 
 -- r meets none of a list.
@@ -18,22 +16,23 @@ MeetsNone r rs = All (λ (q : Range). Meet r q → ⊥) rs
 pub none-sym : (r q : Range) → (Meet r q → ⊥) → Meet q r → ⊥
 none-sym r q n m = n (meet-sym q r m)
 
-disjoint-before : (rs : List Range) (i j : ℕ) → Disjoint rs → i < j → j < length rs → Meet (getD rs i blank) (getD rs j blank) → ⊥
-disjoint-before [] i j d l h = absurd (not-suc-le-zero h)
-disjoint-before (r ∷ rs) i zero d l h = absurd (not-suc-le-zero l)
-disjoint-before (r ∷ rs) zero (suc j) d l h = all-at (λ (q : Range). Meet r q → ⊥) rs j blank (d .0) (le-of-suc-le-suc h)
-disjoint-before (r ∷ rs) (suc i) (suc j) d l h = disjoint-before rs i j (d .1) (le-of-suc-le-suc l) (le-of-suc-le-suc h)
+-- a byte of a range that meets none of a list is in none of them; of several such ranges alike
+pub none-shared : (r : Range) (qs : List Range) → MeetsNone r qs → (b : ℕ) → Has r b → Any (λ (q : Range). Has q b) qs → ⊥
+none-shared r [] n b h a = a
+none-shared r (q ∷ qs) n b h (inl a) = n .0 (record { byte = b; left = h; right = a })
+none-shared r (q ∷ qs) n b h (inr a) = none-shared r qs (n .1) b h a
+
+pub all-shared : (rs qs : List Range) → All (λ (r : Range). MeetsNone r qs) rs → (b : ℕ) → Any (λ (r : Range). Has r b) rs → Any (λ (q : Range). Has q b) qs → ⊥
+all-shared [] qs n b h a = h
+all-shared (r ∷ rs) qs n b (inl h) a = none-shared r qs (n .0) b h a
+all-shared (r ∷ rs) qs n b (inr h) a = all-shared rs qs (n .1) b h a
 
 -- at two places
 pub disjoint-at : (rs : List Range) (i j : ℕ) → Disjoint rs → i < length rs → j < length rs → (i ≡ j → ⊥) → Meet (getD rs i blank) (getD rs j blank) → ⊥
-disjoint-at rs i j d a b n m =
-    by-lt i j (λ l. disjoint-before rs i j d l b m)
-    (λ l. disjoint-before rs j i d (omega (arith, n)) a (meet-sym (getD rs i blank) (getD rs j blank) m))
+disjoint-at rs i j = pairwise-at (λ (r q : Range). Meet r q → ⊥) none-sym rs blank i j
 
 pub at-disjoint : (rs : List Range) → ((i j : ℕ) → i < j → j < length rs → Meet (getD rs i blank) (getD rs j blank) → ⊥) → Disjoint rs
-at-disjoint [] f = tt
-at-disjoint (r ∷ rs) f =
-    (all-of (λ (q : Range). Meet r q → ⊥) rs blank (λ j h. f 0 (suc j) (omega arith) (omega arith)), at-disjoint rs (λ i j l h. f (suc i) (suc j) (omega arith) (omega arith)))
+at-disjoint rs f = at-pairwise (λ (r q : Range). Meet r q → ⊥) rs blank f
 
 -- two lists one behind the other
 pub disjoint-append : (xs ys : List Range) → Disjoint xs → Disjoint ys → All (λ (x : Range). MeetsNone x ys) xs → Disjoint (xs ++ ys)

@@ -1,5 +1,7 @@
 pub mod Cases
 pub mod Lists
+pub mod Keeping
+pub mod Keyed
 pub mod Sums
 pub mod Ranges
 pub mod Disjoint

@@ -3,7 +3,7 @@
 use Prim.Native.Nat.{ℕ, zero, suc, _+_, _-_, _≤_, _<_}
 use mathlib.Core.Bool.{Bool, true, false, _||_, or-true, or-assoc}
 use mathlib.Core.List.{List, [], _∷_, _++_, map, reverse, reverse-cons}
-use mathlib.Core.Logic.{inl, inr}
+use mathlib.Core.Logic.{_⊎_, inl, inr, ⊎-elim}
 use mathlib.Core.Path.{_≡_, refl, ap, sym, _∙_}
 use native.Mathlib.Nat.{le-of-suc-le-suc, not-suc-le-zero}
 use native.Mathlib.Omega.{arith}
@@ -11,7 +11,7 @@ use lib.Dec.{eqb}
 use lib.ListN.{length, getD, drop, set, length-append, length-drop, length-reverse, List·getD-append}
 use lib.Seq.{drop-cons, append-snoc, set-at, getD-at, getD-drop, getD-set-same, getD-set-other}
 use borrow.Author.Tests.{eq-eqb, eqb-true}
-use Rattle.numbers.specs.Lists.{All, Any, any, same, written}
+use Rattle.numbers.specs.Lists.{All, Any, Pairwise, Distinct, any, same, written}
 use Rattle.numbers.proofs.Cases.{cases, clash, by-lt, and-true}
 
 module _ {A : Type 0} (P : A → Type 0) where
@@ -70,10 +70,50 @@ module _ {A : Type 0} (P : A → Type 0) where
   any-imp Q f (x ∷ xs) (inl p) = inl (f x p)
   any-imp Q f (x ∷ xs) (inr a) = inr (any-imp Q f xs a)
 
+  pub any-left : (xs ys : List A) → Any P xs → Any P (xs ++ ys)
+  any-left [] ys a = absurd a
+  any-left (x ∷ xs) ys (inl p) = inl p
+  any-left (x ∷ xs) ys (inr a) = inr (any-left xs ys a)
+
+  pub any-right : (xs ys : List A) → Any P ys → Any P (xs ++ ys)
+  any-right [] ys a = a
+  any-right (x ∷ xs) ys a = inr (any-right xs ys a)
+
+  pub any-parts : (xs ys : List A) → Any P (xs ++ ys) → Any P xs ⊎ Any P ys
+  any-parts [] ys a = inr a
+  any-parts (x ∷ xs) ys (inl p) = inl (inl p)
+  any-parts (x ∷ xs) ys (inr a) = ⊎-elim (λ b. inl (inr b)) (λ b. inr b) (any-parts xs ys a)
+
   pub all-none : (l : List A) → All (λ (x : A). P x → ⊥) l → Any P l → ⊥
   all-none [] f a = a
   all-none (x ∷ xs) f (inl p) = f .0 p
   all-none (x ∷ xs) f (inr a) = all-none xs (f .1) a
+
+-- ---- what holds of every two elements, at two places
+
+module _ {A : Type 0} (R : A → A → Type 0) where
+  pub pairwise-before : (xs : List A) (d : A) (i j : ℕ) → Pairwise R xs → i < j → j < length xs → R (getD xs i d) (getD xs j d)
+  pairwise-before [] d i j p l h = absurd (not-suc-le-zero h)
+  pairwise-before (x ∷ xs) d i zero p l h = absurd (not-suc-le-zero l)
+  pairwise-before (x ∷ xs) d zero (suc j) p l h = all-at (R x) xs j d (p .0) (le-of-suc-le-suc h)
+  pairwise-before (x ∷ xs) d (suc i) (suc j) p l h = pairwise-before xs d i j (p .1) (le-of-suc-le-suc l) (le-of-suc-le-suc h)
+
+  pub at-pairwise : (xs : List A) (d : A) → ((i j : ℕ) → i < j → j < length xs → R (getD xs i d) (getD xs j d)) → Pairwise R xs
+  at-pairwise [] d f = tt
+  at-pairwise (x ∷ xs) d f =
+      (all-of (R x) xs d (λ j h. f 0 (suc j) (omega arith) (omega arith)), at-pairwise xs d (λ i j l h. f (suc i) (suc j) (omega arith) (omega arith)))
+
+  -- whichever stands in front
+  pub pairwise-at : ((x y : A) → R x y → R y x) → (xs : List A) (d : A) (i j : ℕ) → Pairwise R xs → i < length xs → j < length xs → (i ≡ j → ⊥) → R (getD xs i d) (getD xs j d)
+  pairwise-at turn xs d i j p a b n =
+      by-lt i j (λ l. pairwise-before xs d i j p l b) (λ l. turn (getD xs j d) (getD xs i d) (pairwise-before xs d j i p (omega (arith, n)) a))
+
+module _ {A : Type 0} where
+  pub distinct-at : (xs : List A) (d : A) (i j : ℕ) → Distinct xs → i < length xs → j < length xs → (i ≡ j → ⊥) → getD xs i d ≡ getD xs j d → ⊥
+  distinct-at xs d i j = pairwise-at (λ (x y : A). x ≡ y → ⊥) (λ x y n e. n (sym e)) xs d i j
+
+  pub at-distinct : (xs : List A) (d : A) → ((i j : ℕ) → i < j → j < length xs → getD xs i d ≡ getD xs j d → ⊥) → Distinct xs
+  at-distinct xs d f = at-pairwise (λ (x y : A). x ≡ y → ⊥) xs d f
 
 -- tests change places
 pub or-swap : (a b c : Bool) → (a || (b || c)) ≡ (b || (a || c))

@@ -1,9 +1,10 @@
 -- Tests in order: the first that fails gives its number; extents tested one by one.
-use Prim.Native.Nat.{ℕ, _+_, _≤_, _<_}
+use Prim.Native.Nat.{ℕ, zero, suc, _+_, _≤_, _<_}
 use mathlib.Core.Bool.{Bool, true, false}
 use mathlib.Core.List.{List, [], _∷_, _++_}
 use mathlib.Core.Logic.{_⊎_, inl, inr}
 use mathlib.Core.Path.{_≡_, refl, sym, _∙_}
+use native.Mathlib.Nat.{le-of-suc-le-suc, not-suc-le-zero}
 use native.Mathlib.Omega.{arith}
 use lib.Dec.{ltb}
 use lib.ListN.{length, getD, drop, drop-of-length-le}
@@ -47,6 +48,11 @@ unfolding first
 none-first [] a = refl
 none-first (n ∷ ns) a = simp (a .0) (none-first ns (a .1))
 
+-- the other way round
+pub first-all : (ns : List ℕ) → first ns ≡ 0 → All (λ (n : ℕ). n ≡ 0) ns
+first-all [] z = tt
+first-all (n ∷ ns) z = let p = first-none n ns z in (p .0, first-all ns (p .1))
+
 pub pass-none : (n : ℕ) (b : Bool) → b ≡ false → refuse n b ≡ 0
 unfolding refuse
 pass-none n b e = simp e
@@ -82,6 +88,37 @@ pub refuse-high : (m n : ℕ) (b : Bool) → m ≤ n → NoneBelow m (refuse n b
 unfolding refuse
 refuse-high m n true p = inr p
 refuse-high m n false p = inl refl
+
+-- ---- the first number that is not 0, by its place
+
+pub record FirstAt (ns : List ℕ) (i : ℕ) : Type 0 where
+  pub inside : i < length ns
+  pub before : (j : ℕ) → j < i → getD ns j 0 ≡ 0
+  pub here : getD ns i 0 ≡ 0 → ⊥
+
+pub first-at : (ns : List ℕ) (i : ℕ) → FirstAt ns i → first ns ≡ getD ns i 0
+unfolding first
+first-at [] i p = absurd (not-suc-le-zero (p .inside))
+first-at (n ∷ ns) zero p = simp (ne-eqb n 0 (p .here))
+first-at (n ∷ ns) (suc i) p =
+    simp (p .before 0 (omega arith))
+    (first-at ns i (record { inside = le-of-suc-le-suc (p .inside); before = λ j h. p .before (suc j) (omega arith); here = p .here }))
+
+pub at-first : (ns : List ℕ) → (first ns ≡ 0 → ⊥) → (i : ℕ) × FirstAt ns i
+unfolding first
+at-first [] d = absurd (d refl)
+at-first (n ∷ ns) d =
+    by-eq n 0
+    (λ e.
+    let q = at-first ns (λ z. d (simp e z)) in
+    (suc (q .0), record { inside = omega (arith, q .1 .inside); before = behind n ns e (q .0) (q .1 .before); here = q .1 .here }))
+    (λ n0. (0, record { inside = omega arith; before = λ j h. absurd (not-suc-le-zero h); here = n0 }))
+  where
+    behind : (n : ℕ) (ns : List ℕ) → n ≡ 0 → (i : ℕ) → ((j : ℕ) → j < i → getD ns j 0 ≡ 0) → (j : ℕ) → j < suc i → getD (n ∷ ns) j 0 ≡ 0
+    behind n ns e i f zero h = e
+    behind n ns e i f (suc j) h = f j (le-of-suc-le-suc h)
+
+-- ---- extents one by one
 
 module _ (outside : Range → Bool) where
   pub each-high : (s : ℕ) (xs : List Range) → NoneBelow 11 (eachExtent outside s xs)

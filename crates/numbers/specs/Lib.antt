@@ -4,5 +4,6 @@ pub mod Order
 pub mod Sums
 pub mod Powers
 pub mod Lists
+pub mod Keyed
 pub mod Refusals
 pub mod Search

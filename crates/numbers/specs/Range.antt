@@ -3,7 +3,7 @@ use Prim.Native.Nat.{ℕ, _+_, _≤_, _<_, min, max}
 use mathlib.Core.Bool.{Bool, _&&_}
 use mathlib.Core.List.{List, [], _∷_, map}
 use lib.Dec.{ltb, leb}
-use Rattle.numbers.specs.Lists.{All}
+use Rattle.numbers.specs.Lists.{Pairwise}
 use Rattle.numbers.specs.Sums.{stop, sum}
 
 -- "A range is a pair (offset, length)".
@@ -43,8 +43,7 @@ meets r q = ltb (max (r .offset) (q .offset)) (min (endOf r) (endOf q))
 
 -- No two ranges of a list meet; `disjoint-at` and `at-disjoint` (proofs/Disjoint) say it with their places.
 abbrev pub Disjoint : List Range → Type 0
-Disjoint [] = Unit {0}
-Disjoint (r ∷ rs) = All (λ (q : Range). Meet r q → ⊥) rs × Disjoint rs
+Disjoint rs = Pairwise (λ (r q : Range). Meet r q → ⊥) rs
 
 -- A range lies from a up to b.
 pub record Within (a b : ℕ) (r : Range) : Type 0 where

@@ -11,13 +11,13 @@ use lib.ListN.{length, getD}
 use borrow.Author.Tests.{eq-eqb, ne-eqb}
 use Rattle.runs.specs.Runs.{Run, blankRun, notEmpty, joins, joinedTo, joined, runsFrom, runsOf, byteOf}
 use Rattle.numbers.specs.Lists.{All, Any}
-use Rattle.numbers.specs.Range.{Range, range, blank, Has, Meet, Disjoint, total}
+use Rattle.numbers.specs.Range.{Range, range, blank, Has, Disjoint, total}
 use Rattle.numbers.specs.Sums.{top, sum}
 use Rattle.runs.proofs.Joining.{joins-true, true-joins}
 use Rattle.runs.proofs.Positions.{byte-here, byte-later, runs-apart, total-joined, total-notEmpty}
 use Rattle.numbers.proofs.Cases.{cases, by-lt, by-eq, clash}
-use Rattle.numbers.proofs.Disjoint.{MeetsNone}
-use Rattle.numbers.proofs.Lists.{all-at, all-imp, all-none}
+use Rattle.numbers.proofs.Disjoint.{MeetsNone, none-shared}
+use Rattle.numbers.proofs.Lists.{all-at}
 use Rattle.numbers.proofs.Ranges.{end-exact}
 
 -- Each extent ends at or below 2^64 - 1.
@@ -41,11 +41,6 @@ byte-in (x ∷ xs) p a h =
     (λ l. let e = end-exact x (a .0) in inl (rw (byte-here x xs p l) (record { from = omega arith; upto = omega arith })))
     (λ l. inr (rw (byte-later x xs p l) (byte-in xs (p - x .len) (a .1) (omega arith))))
 
--- what has a byte meets whatever has it
-has-meets : (x : Range) (ys : List Range) (b : ℕ) → Has x b → Any (λ (y : Range). Has y b) ys → MeetsNone x ys → ⊥
-has-meets x ys b h y n =
-    all-none (λ (y : Range). Has y b) ys (all-imp (λ (y : Range). Meet x y → ⊥) (λ (y : Range). Has y b → ⊥) (λ y f g. f (record { byte = b; left = h; right = g })) ys n) y
-
 -- positions of extents that meet none of others have other bytes than those
 pub bytes-apart : (xs ys : List Range) → Ends xs → Ends ys → All (λ (x : Range). MeetsNone x ys) xs → (p q : ℕ) → p < total xs → q < total ys → byteOf xs p ≡ byteOf ys q → ⊥
 unfolding sum
@@ -55,7 +50,7 @@ bytes-apart (x ∷ xs) ys a b n p q h k e =
     (λ l.
     let c : x .offset + p ≡ byteOf ys q = sym (byte-here x xs p l) ∙ e in
     let t = end-exact x (a .0) in
-    has-meets x ys (byteOf ys q) (record { from = omega arith; upto = omega arith }) (byte-in ys q b k) (n .0))
+    none-shared x ys (n .0) (byteOf ys q) (record { from = omega arith; upto = omega arith }) (byte-in ys q b k))
     (λ l. bytes-apart xs ys (a .1) b (n .1) (p - x .len) q (omega arith) k (sym (byte-later x xs p l) ∙ e))
 
 -- different positions of extents that do not meet have different bytes

@@ -9,14 +9,14 @@ use lib.Dec.{eqb, ltb, leb, leb·suc-suc}
 use lib.ListN.{length, getD, take, drop, length-take, length-drop}
 use lib.Seq.{length-take-le, split-at, getD-take, getD-drop}
 use borrow.Author.Tests.{ltb-true, ltb-false, le-ltb, le-leb, lt-leb, eq-eqb, ne-eqb}
-use Rattle.numbers.specs.Lists.{All, any, same}
+use Rattle.numbers.specs.Lists.{All, any, keep, same}
 use Rattle.settle.specs.Inner.{Enough, Short, OwnShort, noRegion}
 use Rattle.settle.specs.Naming.{nameAt, Tagged, Listed, rivals, anyBelow, outdone}
 use Rattle.settle.specs.Regions.{Lent, Region, regionsOf}
-use Rattle.settle.specs.Settle.{keep, highest, renamed}
+use Rattle.settle.specs.Settle.{highest, renamed}
 use Rattle.numbers.proofs.Cases.{cases, by-eq, both-ways}
 use Rattle.numbers.proofs.Lists.{same-true, true-same, all-at, any-true, any-false, of-any, any-imp, any-at, any-of, any-append}
-use Rattle.settle.proofs.Keeping.{keep-append, any-keep, any-kept, any-middle, keep-middle}
+use Rattle.numbers.proofs.Keeping.{keep-append, any-keep, any-kept, any-middle, keep-middle}
 use Rattle.settle.proofs.Naming.{rival-itself, rival-longer, below-of, below-true}
 use Rattle.settle.proofs.Reading.{length-of, region-of}
 

@@ -4,10 +4,9 @@ use mathlib.Core.List.{List}
 use mathlib.Core.Path.{_≡_}
 use lib.Dec.{ltb, leb}
 use lib.ListN.{length, getD}
-use Rattle.numbers.specs.Lists.{All}
+use Rattle.numbers.specs.Lists.{All, keep}
 use Rattle.numbers.specs.Pairs.{pairs}
 use Rattle.numbers.specs.Range.{Range, range, blank}
-use Rattle.settle.specs.Settle.{keep}
 
 -- The pairs of s from first on are the numbers with their places; those in front are kept.
 pub record Keyed (seqs : List ℕ) (first : ℕ) (s₀ s : List ℕ) : Type 0 where

@@ -5,7 +5,7 @@ use mathlib.Core.List.{List, [], _∷_, _++_}
 use mathlib.Core.Path.{_≡_}
 use lib.Dec.{eqb, ltb, leb}
 use lib.ListN.{length, take}
-use Rattle.numbers.specs.Lists.{any, same, written}
+use Rattle.numbers.specs.Lists.{any, keep, same, written}
 use Rattle.numbers.specs.Pairs.{isOdd, pairs}
 use Rattle.numbers.specs.Range.{meets}
 use Rattle.numbers.specs.Refusals.{refuse}
@@ -27,11 +27,6 @@ overlapped us i = anyOther (λ (x y : Piece). eqb (x .region) i && leb (x .seq) 
 unfoldable pub superseded : List Region → List Region → ℕ → Bool
 superseded us un i =
     any (λ (x : Piece). any (λ (y : Piece). eqb (x .region) i && ltb (x .seq) (y .seq) && meets (x .range) (y .range)) (pieces un)) (pieces us)
-
--- The elements that pass a test.
-unfoldable pub keep : {A : Type 0} → (A → Bool) → List A → List A
-keep f [] = []
-keep f (x ∷ xs) = cond (f x) (x ∷ keep f xs) (keep f xs)
 
 -- "usable or named unavailable record of the same name", the region itself among them.
 abbrev pub namesakes : List Region → List Region → Region → List Region

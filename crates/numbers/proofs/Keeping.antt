@@ -8,9 +8,8 @@ use native.Mathlib.Omega.{arith}
 use lib.Dec.{ltb}
 use lib.ListN.{length, getD, length-append}
 use borrow.Author.Tests.{lt-ltb}
-use Rattle.numbers.specs.Lists.{Any, any}
-use Rattle.settle.specs.Settle.{keep}
+use Rattle.numbers.specs.Lists.{Any, any, keep}
 use Rattle.numbers.proofs.Cases.{cases}
 
 module _ {A : Type 0} (f : A → Bool) where
   pub keep-append : (xs ys : List A) → keep f (xs ++ ys) ≡ keep f xs ++ keep f ys

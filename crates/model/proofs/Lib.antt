@@ -1,0 +1,16 @@
+pub mod Sound
+pub mod Spans
+pub mod Regions
+pub mod Rows
+pub mod Create
+pub mod Change
+pub mod Steps
+pub mod Figures
+pub mod Located
+pub mod Stays
+pub mod Drops
+pub mod Opening
+pub mod Refused
+pub mod Demand
+pub mod Listing
+pub mod Opens
