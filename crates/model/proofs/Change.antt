@@ -1,17 +1,17 @@
 -- Accepted calls on a region that is there, and on a tag's cap, keep a world sound.
-use Prim.Native.Nat.{ℕ, _+_, _/_, _%_, _^_, _≤_, _<_, min, max}
+use Prim.Native.Nat.{ℕ, _+_, _*_, _/_, _%_, _^_, _≤_, _<_, min, max}
 use mathlib.Core.Bool.{false}
-use mathlib.Core.List.{List, [], _∷_, _++_, append-assoc}
-use mathlib.Core.Path.{_≡_, refl, sym, subst, _∙_}
+use mathlib.Core.List.{List, [], _∷_, _++_}
+use mathlib.Core.Path.{_≡_, refl, sym, subst}
 use native.Mathlib.Nat.{mul-pos}
 use native.Mathlib.Omega.{arith}
 use lib.Dec.{leb}
 use lib.ListN.{length, length-append}
-use lib.Pow.{pow-pos}
-use borrow.Author.Tests.{ltb-false, leb-false, eqb-true, eqb-false, not-false}
+use lib.Pow.{pow-pos, pow-add}
+use borrow.Author.Tests.{ltb-false, leb-true, leb-false, le-leb, eqb-true, eqb-false, not-false}
 use Rattle.footprint.specs.Footprint.{kindCode}
 use Rattle.footprint.specs.declared.RegionKind.the-variants.{Slot}
-use Rattle.model.specs.Calls.{known, tagFull, capFails, regionIn, withRegions, step, stepLen, growTests, grown, publishTests, publishedTo}
+use Rattle.model.specs.Calls.{known, tagFull, capFails, regionIn, withRegions, withRows, step, stepLen, growTests, grown, publishTests, publishedTo}
 use Rattle.model.specs.Region.{Region, capacity, footprint, footprints, idOf, onRegion, without}
 use Rattle.model.specs.Span.{FreeSpan}
 use Rattle.model.specs.World.{World, TagRow, tagOf, putRow}
@@ -19,7 +19,7 @@ use Rattle.numbers.specs.Keyed.{HasKey}
 use Rattle.numbers.specs.Lists.{Distinct}
 use Rattle.numbers.specs.Range.{Range, range, Disjoint, Within}
 use Rattle.numbers.specs.Refusals.{first}
-use Rattle.model.proofs.Regions.{known-true, split, all-on, all-without, map-on, distinct-without, length-on, length-without, heldFront, heldBehind, held-split, held-grown, held-dropped, held-kept}
+use Rattle.model.proofs.Regions.{known-true, split, all-on, all-without, map-on, distinct-without, length-on, length-without, heldFront, heldBehind, held-parts, held-split, held-grown, held-dropped, held-kept}
 use Rattle.model.proofs.Rows.{put-few, put-ordered, put-tagged}
 use Rattle.model.proofs.Sound.{Regular, Sound}
 use Rattle.numbers.proofs.Cases.{cases, by-lt}
@@ -35,6 +35,20 @@ unfolding step
 step-some n =
     let p = pow-pos (n / 2) in
     cases (leb n 23) (λ e. simp e (omega arith)) (λ e. simp e (omega arith))
+
+-- it doubles with every second extent, up to the last of the 24, from which on it stays
+pub step-doubles : (n : ℕ) → n ≤ 21 → step (n + 2) ≡ 2 * step n
+unfolding step
+step-doubles n h =
+    let e : (n + 2) / 2 ≡ n / 2 + 1 = omega arith in
+    simp (le-leb (n + 2) 23 (omega arith), le-leb n 23 (omega arith)) (rw (e, pow-add 2 (n / 2) 1) (omega arith))
+
+pub step-last : (n : ℕ) → 22 ≤ n → step n ≡ 32768
+unfolding step
+step-last n h =
+    cases (leb n 23)
+    (λ e. let l = leb-true n 23 e in let q : n / 2 ≡ 11 = omega arith in simp e (rw q))
+    (λ e. simp e)
 
 pub step-len-some : (w : World) (r : Region) → 0 < stepLen w r
 step-len-some w r = mul-pos (step-some (length (r .extents))) (pow-pos (w .limits .«log2_block»))
@@ -184,8 +198,8 @@ dropped-sound w s id k =
       names = distinct-without (λ (r : Region). r .name) id (w .regions) (s .names);
       apart =
           rw (held-dropped (w .limits) id (w .regions) c)
-          (disjoint-parts (footprints (w .limits) (c .front)) (footprint (w .limits) (regionIn w id)) (heldBehind (w .limits) id (w .regions) c)
-          (subst Disjoint (held-split (w .limits) id (w .regions) c ∙ append-assoc (footprints (w .limits) (c .front)) (footprint (w .limits) (regionIn w id)) (heldBehind (w .limits) id (w .regions) c)) (s .apart)));
+          (disjoint-parts (footprints (w .limits) (c .front)) (footprint (w .limits) (regionIn w id)) (footprints (w .limits) (c .behind))
+          (subst Disjoint (held-parts (w .limits) id (w .regions) c) (s .apart)));
       tagged = all-without (λ (r : Region). HasKey tagOf (r .tag) (w .rows)) id (w .regions) (s .tagged);
       rows-few = s .rows-few;
       order = s .order;
@@ -194,7 +208,7 @@ dropped-sound w s id k =
 
 -- ---- cap
 
-pub capped-sound : (w : World) → Sound w → (t : TagRow) → tagFull w (t .tag) ≡ false → Sound (record { limits = w .limits; regions = w .regions; last = w .last; rows = putRow t (w .rows) })
+pub capped-sound : (w : World) → Sound w → (t : TagRow) → tagFull w (t .tag) ≡ false → Sound (withRows w (putRow t (w .rows)))
 capped-sound w s t f =
     record {
       low = s .low;

@@ -17,7 +17,7 @@ use Rattle.numbers.specs.Keyed.{HasKey}
 use Rattle.numbers.specs.Range.{Range, Has, Disjoint}
 use Rattle.numbers.specs.Refusals.{accepted, refuse, first}
 use Rattle.model.proofs.Change.{step-len-some}
-use Rattle.model.proofs.Figures.{held-and-free}
+use Rattle.model.proofs.Figures.{held-and-free, held-most, physical-most, logical-most}
 use Rattle.model.proofs.Located.{region-regular, region-ends, located-at}
 use Rattle.model.proofs.Opening.{opened-sound}
 use Rattle.model.proofs.Regions.{known-true, split, heldFront, heldBehind, held-split}
@@ -65,7 +65,8 @@ module _ (lim : Limits) (b : ℕ) where
       later : (n : ℕ) → (r .number ≡ n → ⊥) → In (footprint lim (regionOf n (r ∷ rs))) → In (footprint lim (regionOf n rs))
       later n e c = subst (λ (q : Region). In (footprint lim q)) (keyed-later idOf noRegion n r rs e) c
 
-      first-only : (i j : ℕ) → r .number ≡ i → (r .number ≡ j → ⊥) → HasKey idOf j (r ∷ rs) → In (footprint lim (regionOf i (r ∷ rs))) → In (footprint lim (regionOf j (r ∷ rs))) → ⊥
+      first-only : (i j : ℕ) → r .number ≡ i → (r .number ≡ j → ⊥) → HasKey idOf j (r ∷ rs)
+          → In (footprint lim (regionOf i (r ∷ rs))) → In (footprint lim (regionOf j (r ∷ rs))) → ⊥
       first-only i j e f l c d =
           all-shared (footprint lim r) (footprints lim rs) (disjoint-between (footprint lim r) (footprints lim rs) a) b
           (subst (λ (q : Region). In (footprint lim q)) (keyed-here idOf noRegion i r rs e) c)
@@ -153,6 +154,7 @@ module _ (w : World) (s : Sound w) where
         own = own-byte;
         stays = λ id p cs. byte-stays id p w s cs;
         figures = held-and-free w s;
+        totals = λ tag. let h = held-most w s in (omega (arith, physical-most w s tag), omega (arith, logical-most w s tag));
         create-room = λ id tag name.
             room (createTests w id tag name) (headerLen w) (create id tag name) (omega (arith, block-some w)) (create-low id tag name) refl refl;
         grow-room = λ id. room (growTests w id) (stepLen w (regionIn w id)) (grow id) (step-len-some w (regionIn w id)) (grow-low id) refl refl;

@@ -27,9 +27,10 @@ without-none id [] d = λ h. h
 without-none id (r ∷ rs) d =
     by-eq (r .number) id
     (λ e.
+    let a = map-all (λ (n : ℕ). r .number ≡ n → ⊥) idOf rs (d .0) in
     simp (eq-eqb _ _ e)
     (all-none (λ (q : Region). q .number ≡ id) rs
-    (all-imp (λ (q : Region). r .number ≡ q .number → ⊥) (λ (q : Region). q .number ≡ id → ⊥) (λ q n f. n (e ∙ sym f)) rs (map-all (λ (n : ℕ). r .number ≡ n → ⊥) idOf rs (d .0)))))
+    (all-imp (λ (q : Region). r .number ≡ q .number → ⊥) (λ (q : Region). q .number ≡ id → ⊥) (λ q n f. n (e ∙ sym f)) rs a)))
     (λ e. simp (ne-eqb _ _ e) (⊎-elim e (without-none id rs (d .1))))
 
 module _ (w : World) (s : Sound w) (id : ℕ) (k : known w id ≡ true) where

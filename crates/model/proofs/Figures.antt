@@ -77,7 +77,8 @@ module _ (w : World) (s : Sound w) where
   pub logical-most : (tag : ℕ) → logical w tag ≤ held w
   logical-most tag =
       tag-le (λ (r : Region). r .published) (footprintLen (w .limits)) tag (w .regions)
-      (all-imp (Regular (w .limits)) (λ (r : Region). r .published ≤ footprintLen (w .limits) r) (λ r q. let e = footprint-len (w .limits) r in omega (arith, q .size, e)) (w .regions) (s .regular))
+      (all-imp (Regular (w .limits)) (λ (r : Region). r .published ≤ footprintLen (w .limits) r)
+      (λ r q. let e = footprint-len (w .limits) r in omega (arith, q .size, e)) (w .regions) (s .regular))
 
   -- nor a capacity
   pub capacity-most : (id : ℕ) → HasKey idOf id (w .regions) → capacity (regionIn w id) ≤ top

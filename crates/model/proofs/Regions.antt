@@ -77,7 +77,8 @@ module _ (P : Region → Type 0) where
       let s = split id rs h in
       all-right P (s .front) (regionOf id rs ∷ s .behind) (subst (All P) (s .is) a) .0
 
-  pub all-on : (id : ℕ) (f : Region → Region) (rs : List Region) → HasKey idOf id rs → (P (regionOf id rs) → P (f (regionOf id rs))) → All P rs → All P (onRegion id f rs)
+  pub all-on : (id : ℕ) (f : Region → Region) (rs : List Region) → HasKey idOf id rs → (P (regionOf id rs) → P (f (regionOf id rs)))
+      → All P rs → All P (onRegion id f rs)
   all-on id f rs h g a =
       let s = split id rs h in
       let b : All P (s .front ++ (regionOf id rs ∷ s .behind)) = subst (All P) (s .is) a in
@@ -106,8 +107,8 @@ module _ {B : Type 0} (g : Region → B) (id : ℕ) where
   distinct-without (r ∷ rs) d =
       by-eq (r .number) id (λ e. simp (eq-eqb _ _ e) (d .1))
       (λ n.
-      simp (ne-eqb _ _ n)
-      (all-map (λ (y : B). g r ≡ y → ⊥) g (without id rs) (all-without (λ (x : Region). g r ≡ g x → ⊥) id rs (map-all (λ (y : B). g r ≡ y → ⊥) g rs (d .0))), distinct-without rs (d .1)))
+      let P : B → Type 0 = λ y. g r ≡ y → ⊥ in
+      simp (ne-eqb _ _ n) (all-map P g (without id rs) (all-without (λ (x : Region). P (g x)) id rs (map-all P g rs (d .0))), distinct-without rs (d .1)))
 
 -- ---- sums over the regions
 
@@ -244,11 +245,11 @@ module _ (lim : Limits) (id : ℕ) (rs : List Region) (s : Split id rs) where
   abbrev pub heldBehind : List Range
   heldBehind = footprints lim (s .behind)
 
+  pub held-parts : footprints lim rs ≡ footprints lim (s .front) ++ (footprint lim (regionOf id rs) ++ heldBehind)
+  held-parts = ap (footprints lim) (s .is) ∙ footprints-middle lim (s .front) (regionOf id rs) (s .behind)
+
   pub held-split : footprints lim rs ≡ heldFront ++ heldBehind
-  held-split =
-      ap (footprints lim) (s .is)
-      ∙ footprints-middle lim (s .front) (regionOf id rs) (s .behind)
-      ∙ sym (append-assoc (footprints lim (s .front)) (footprint lim (regionOf id rs)) heldBehind)
+  held-split = held-parts ∙ sym (append-assoc (footprints lim (s .front)) (footprint lim (regionOf id rs)) heldBehind)
 
   -- with an extent more
   pub held-grown : (a n : ℕ) → footprints lim (onRegion id (grown a n) rs) ≡ heldFront ++ (range a n ∷ heldBehind)
@@ -263,7 +264,8 @@ module _ (lim : Limits) (id : ℕ) (rs : List Region) (s : Split id rs) where
   held-dropped = ap (footprints lim) (s .dropped) ∙ footprints-append lim (s .front) (s .behind)
 
 -- where the footprint stays, all do
-pub held-kept : (lim : Limits) (id : ℕ) (f : Region → Region) → ((r : Region) → footprint lim (f r) ≡ footprint lim r) → (rs : List Region) → footprints lim (onRegion id f rs) ≡ footprints lim rs
+pub held-kept : (lim : Limits) (id : ℕ) (f : Region → Region) → ((r : Region) → footprint lim (f r) ≡ footprint lim r)
+    → (rs : List Region) → footprints lim (onRegion id f rs) ≡ footprints lim rs
 unfolding footprints onRegion
 held-kept lim id f k [] = refl
 held-kept lim id f k (r ∷ rs) =

@@ -47,7 +47,8 @@ module _ (w : World) (n p : ℕ) where
   true-free f =
       let none-meets : any (meets (range p n)) (heldRanges w) ≡ false =
       of-none (meets (range p n)) (heldRanges w)
-      (all-imp (λ (r : Range). Meet (range p n) r → ⊥) (λ (r : Range). meets (range p n) r ≡ false) (λ r a. never _ (λ t. a (meets-true (range p n) r t))) (heldRanges w) (f .apart)) in
+      (all-imp (λ (r : Range). Meet (range p n) r → ⊥) (λ (r : Range). meets (range p n) r ≡ false)
+      (λ r a. never _ (λ t. a (meets-true (range p n) r t))) (heldRanges w) (f .apart)) in
       simp (eq-eqb _ _ (f .multiple), le-leb _ _ (f .from), le-leb _ _ (f .upto), none-meets)
 
 -- ---- the search
@@ -148,7 +149,12 @@ module _ (w : World) (s : Sound w) where
   by-ranges n p f =
       let m = f .multiple in
       let e : p ≡ m .times * block w = omega (arith, m .is) in
-      record { multiple = ap (λ (x : ℕ). x % block w) e ∙ mul-mod-left (m .times) (block w); from = f .from; upto = f .upto; apart = span-meets-none _ _ (heldRanges w) small n (block w) 0 p f }
+      record {
+        multiple = ap (λ (x : ℕ). x % block w) e ∙ mul-mod-left (m .times) (block w);
+        from = f .from;
+        upto = f .upto;
+        apart = span-meets-none _ _ (heldRanges w) small n (block w) 0 p f;
+      }
 
   -- first fit over the gaps of what is held, with align the block and skew 0: no gap is ever skipped
   pub least-is-fit : (n : ℕ) → 0 < n → leastFree w n ≡ firstFit n (block w) 0 (gapsOf (w .limits .«table_end») (w .limits .«file_len») (heldRanges w))

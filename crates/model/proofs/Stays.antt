@@ -39,15 +39,19 @@ module _ (id : ℕ) (rs : List Region) (k : HasKey idOf id rs) where
   still-same = record { known = k; later = later-same (regionOf id rs) }
 
   -- one region was changed
-  still-on : (jd : ℕ) (f : Region → Region) → ((r : Region) → f r .number ≡ r .number) → ((r : Region) → Later r (f r)) → Still id (regionOf id rs) (onRegion jd f rs)
+  still-on : (jd : ℕ) (f : Region → Region) → ((r : Region) → f r .number ≡ r .number) → ((r : Region) → Later r (f r))
+      → Still id (regionOf id rs) (onRegion jd f rs)
   still-on jd f keeps g =
       record {
         known = has-on jd f keeps id rs k;
         later =
             by-eq id jd
-            (λ e. subst (λ (n : ℕ). Later (regionOf n rs) (regionOf n (onRegion jd f rs))) (sym e) (subst (Later (regionOf jd rs)) (sym (region-on jd f keeps rs (subst (λ (n : ℕ). HasKey idOf n rs) e k))) (g (regionOf jd rs))))
+            (λ e. subst (λ (n : ℕ). HasKey idOf n rs → Later (regionOf n rs) (regionOf n (onRegion jd f rs))) (sym e) itself k)
             (λ d. later-is _ _ (other-on jd f keeps id d rs));
       }
+    where
+      itself : HasKey idOf jd rs → Later (regionOf jd rs) (regionOf jd (onRegion jd f rs))
+      itself h = subst (Later (regionOf jd rs)) (sym (region-on jd f keeps rs h)) (g (regionOf jd rs))
 
 -- ---- one call
 
@@ -58,7 +62,8 @@ grown-later a n r = record { more = range a n ∷ []; extents = refl; published 
 published-later : (len : ℕ) (r : Region) → Later r (publishedTo len r)
 published-later len r = record { more = []; extents = sym (append-nil (r .extents)); published = omega arith }
 
-accept-keeps : (w : World) (id : ℕ) → HasKey idOf id (w .regions) → (c : Call) → (c ≡ drop id → ⊥) → Still id (regionIn w id) (accept w c .regions)
+accept-keeps : (w : World) (id : ℕ) → HasKey idOf id (w .regions) → (c : Call) → (c ≡ drop id → ⊥)
+    → Still id (regionIn w id) (accept w c .regions)
 unfolding accept
 accept-keeps w id k (create jd tag name) d = record { known = has-behind id _ (w .regions) k; later = later-is _ _ (region-behind id _ (w .regions) k) }
 accept-keeps w id k (grow jd) d = still-on id (w .regions) k jd (grown _ _) (λ r. refl) (grown-later _ _)
@@ -69,7 +74,8 @@ accept-keeps w id k (drop jd) d =
 accept-keeps w id k (cap tag limit) d = still-same id (w .regions) k
 accept-keeps w id k (locate jd pos n) d = still-same id (w .regions) k
 
-pub next-keeps : (w : World) (id : ℕ) → HasKey idOf id (w .regions) → (c : Call) → (c ≡ drop id → refusalTo w c ≡ 0 → ⊥) → Still id (regionIn w id) (next w c .regions)
+pub next-keeps : (w : World) (id : ℕ) → HasKey idOf id (w .regions) → (c : Call) → (c ≡ drop id → refusalTo w c ≡ 0 → ⊥)
+    → Still id (regionIn w id) (next w c .regions)
 next-keeps w id k c d =
     next-cases w c (λ (v : World). Still id (regionIn w id) (v .regions)) (λ z. accept-keeps w id k c (λ e. d e z)) (λ n. still-same id (w .regions) k)
 

@@ -6,10 +6,11 @@ use mathlib.Core.Option.{Option, none, some}
 use mathlib.Core.Path.{_≡_, refl, ap, sym, subst, _∙_}
 use native.Mathlib.Omega.{arith}
 use borrow.Author.Tests.{eq-eqb, ne-eqb, not-false}
-use Rattle.model.specs.Calls.{Call, create, grow, publish, drop, cap, locate, noRoom, headerLen, createTests, growTests, stepLen, regionIn, createdAt, grown, withRegions, refusalTo, byteFor, answerTo, accept, next, worldAfter}
+use Rattle.model.specs.Calls.{Call, create, grow, publish, drop, cap, locate, noRoom, headerLen, createTests, growTests, stepLen, regionIn, createdAt, grown, withRegions, refusalTo, byteFor, answerTo, accept, next, worldAfter, worldsAlong}
 use Rattle.model.specs.Region.{onRegion}
 use Rattle.model.specs.Span.{LeastFree, leastFree, isNone, orZero}
 use Rattle.model.specs.World.{World, tagRow}
+use Rattle.numbers.specs.Lists.{All}
 use Rattle.numbers.specs.Refusals.{accepted, refuse, first}
 use Rattle.model.proofs.Change.{grows, grown-sound, publishes, published-sound, dropped-sound, capped-sound, step-len-some}
 use Rattle.model.proofs.Create.{creates, created-sound}
@@ -84,6 +85,11 @@ pub after-sound : (w : World) → Sound w → (cs : List Call) → Sound (worldA
 unfolding worldAfter
 after-sound w s [] = s
 after-sound w s (c ∷ cs) = after-sound (next w c) (next-sound w s c) cs
+
+pub along-sound : (w : World) → Sound w → (cs : List Call) → All Sound (worldsAlong w cs)
+unfolding worldsAlong
+along-sound w s [] = (s, tt)
+along-sound w s (c ∷ cs) = (s, along-sound (next w c) (next-sound w s c) cs)
 
 -- ---- create and grow where a span is free
 

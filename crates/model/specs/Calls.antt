@@ -7,7 +7,7 @@ use lib.Dec.{eqb, leb, ltb}
 use lib.ListN.{length}
 use Rattle.footprint.specs.Footprint.{kindCode}
 use Rattle.footprint.specs.declared.RegionKind.the-variants.{Append, Slot}
-use Rattle.model.specs.Region.{Region, capacity, regionOf, onRegion, without}
+use Rattle.model.specs.Region.{Region, capacity, withData, regionOf, onRegion, without}
 use Rattle.model.specs.Span.{leastFree, isNone, orZero}
 use Rattle.model.specs.World.{World, TagRow, tagRow, block, accountOf, hasRow, putRow, withTag}
 use Rattle.numbers.specs.Lists.{any, same}
@@ -60,6 +60,9 @@ regionIn w id = regionOf id (w .regions)
 
 abbrev pub withRegions : World → List Region → World
 withRegions w rs = record { limits = w .limits; regions = rs; last = w .last; rows = w .rows }
+
+abbrev pub withRows : World → List TagRow → World
+withRows w ts = record { limits = w .limits; regions = w .regions; last = w .last; rows = ts }
 
 -- ---- create
 
@@ -132,22 +135,7 @@ growTests w id =
 
 -- "one more extent ..; the span widens to cover it and the capacity gains its length"
 abbrev pub grown : (a n : ℕ) → Region → Region
-grown a n r =
-    record {
-      number = r .number;
-      tag = r .tag;
-      name = r .name;
-      kind = r .kind;
-      flags = r .flags;
-      log2 = r .log2;
-      header-a = r .header-a;
-      header-b = r .header-b;
-      extents = r .extents ++ (range a n ∷ []);
-      published = r .published;
-      span-start = min (r .span-start) a;
-      span-end = max (r .span-end) (a + n);
-      seq = r .seq;
-    }
+grown a n r = withData (r .extents ++ (range a n ∷ [])) (r .published) (min (r .span-start) a) (max (r .span-end) (a + n)) r
 
 -- ---- publish
 
@@ -161,22 +149,7 @@ publishTests w id len =
 
 -- "`publish_len` never lowers."
 abbrev pub publishedTo : ℕ → Region → Region
-publishedTo len r =
-    record {
-      number = r .number;
-      tag = r .tag;
-      name = r .name;
-      kind = r .kind;
-      flags = r .flags;
-      log2 = r .log2;
-      header-a = r .header-a;
-      header-b = r .header-b;
-      extents = r .extents;
-      published = max (r .published) len;
-      span-start = r .span-start;
-      span-end = r .span-end;
-      seq = r .seq;
-    }
+publishedTo len r = withData (r .extents) (max (r .published) len) (r .span-start) (r .span-end) r
 
 -- ---- locate
 
@@ -202,8 +175,8 @@ refusalTo w (drop id) = refuse 16 (not (known w id))
 refusalTo w (cap tag limit) = refuse 19 (tagFull w tag)
 refusalTo w (locate id pos n) = first (locateTests w id pos n)
 
--- The byte of an accepted call: placed by create ("the first header block") and grow, located by locate: "Position p in the run
--- starting at s with file offset f is byte f + (p - s)".
+-- The byte of an accepted call: "placed", by create that of its first header block, or "located": "Position p in the run starting
+-- at s with file offset f is byte f + (p - s)."
 unfoldable pub byteFor : World → Call → Option ℕ
 byteFor w (create id tag name) = leastFree w (headerLen w)
 byteFor w (grow id) = leastFree w (stepLen w (regionIn w id))
@@ -224,7 +197,7 @@ accept w (grow id) =
 accept w (publish id len) = withRegions w (onRegion id (publishedTo len) (w .regions))
 -- "its bytes are free for the next call"; its tag's row stays
 accept w (drop id) = withRegions w (without id (w .regions))
-accept w (cap tag limit) = record { limits = w .limits; regions = w .regions; last = w .last; rows = putRow (tagRow tag limit) (w .rows) }
+accept w (cap tag limit) = withRows w (putRow (tagRow tag limit) (w .rows))
 accept w (locate id pos n) = w
 
 -- "A refused call .. changes nothing".

@@ -1,14 +1,15 @@
 -- Document 01, "Demand 3 is one claim about the list", of the model: what is claimed of the world after every list of calls on an
 -- opened plan. `demand` (proofs/Demand) proves it.
-use Prim.Native.Nat.{ℕ, _+_, _-_, _<_}
+use Prim.Native.Nat.{ℕ, _+_, _-_, _≤_, _<_}
 use mathlib.Core.Bool.{true}
 use mathlib.Core.List.{List, [], _∷_}
 use mathlib.Core.Option.{some}
 use mathlib.Core.Path.{_≡_}
 use Rattle.model.specs.Calls.{Call, create, grow, drop, locate, known, regionIn, headerLen, createTests, stepLen, growTests, refusalTo, answerTo, next, worldAfter}
 use Rattle.model.specs.Span.{FreeSpan, LeastFree}
-use Rattle.model.specs.World.{World, held, free}
+use Rattle.model.specs.World.{World, held, free, physical, logical}
 use Rattle.numbers.specs.Refusals.{accepted, refused, first}
+use Rattle.numbers.specs.Sums.{top}
 use Rattle.runs.specs.Runs.{byteOf}
 
 -- Position p of the region id is published.
@@ -42,6 +43,8 @@ pub record Demand (w : World) : Type 0 where
       → Published (worldAfter w cs) id p × (byteAt (worldAfter w cs) id p ≡ byteAt w id p)
   -- held and free make up the container behind its table
   pub figures : held w + free w ≡ w .limits .«file_len» - w .limits .«table_end»
+  -- no tag's total passes 2^64 - 1, so that the accounts, whose sums stop there, can tell it
+  pub totals : (tag : ℕ) → (physical w tag ≤ top) × (logical w tag ≤ top)
   -- room is refused exactly when no span is free
   pub create-room : (id tag : ℕ) (name : List ℕ) → Room w (createTests w id tag name) (headerLen w) (create id tag name)
   pub grow-room : (id : ℕ) → Room w (growTests w id) (stepLen w (regionIn w id)) (grow id)

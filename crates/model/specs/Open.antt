@@ -74,7 +74,7 @@ listsFail o =
     || any (λ (r : Record). ltb 60 (r .entry .«extent_count»)) (o .records)
     -- names "of 0 to 24 bytes"
     || any (λ (r : Record). ltb 24 (length (r .name))) (o .records)
-    -- max_extents(L) "limits the entry's and the header's extent count"; of an entry's 60 are always within it
+    -- max_extents(L) "limits the entry's and the header's extent count"; an entry's 60 are within it for every L
     || any (λ (r : Record). ltb (maxExtents (o .limits .«log2_block»)) (r .header .«extent_count»)) (o .records)
     -- "a list of pairs is odd or not the header's count"
     || isOdd (o .extents)

@@ -31,6 +31,25 @@ pub record Region : Type 0 where
   -- its sequence number
   pub seq : ℕ
 
+-- The region with other extents, another published length and another span.
+abbrev pub withData : List Range → (published start end : ℕ) → Region → Region
+withData xs published start end r =
+    record {
+      number = r .number;
+      tag = r .tag;
+      name = r .name;
+      kind = r .kind;
+      flags = r .flags;
+      log2 = r .log2;
+      header-a = r .header-a;
+      header-b = r .header-b;
+      extents = xs;
+      published = published;
+      span-start = start;
+      span-end = end;
+      seq = r .seq;
+    }
+
 -- The sum of its extents: "the capacity gains its length" with every extent, and at open refusal 12 holds it to that sum.
 abbrev pub capacity : Region → ℕ
 capacity r = total (r .extents)
