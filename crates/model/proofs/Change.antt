@@ -11,14 +11,15 @@ use lib.Pow.{pow-pos, pow-add}
 use borrow.Author.Tests.{ltb-false, leb-true, leb-false, le-leb, eqb-true, eqb-false, not-false}
 use Rattle.footprint.specs.Footprint.{kindCode}
 use Rattle.footprint.specs.declared.RegionKind.the-variants.{Slot}
-use Rattle.model.specs.Calls.{known, tagFull, capFails, regionIn, withRegions, withRows, step, stepLen, growTests, grown, publishTests, publishedTo}
-use Rattle.model.specs.Region.{Region, capacity, footprint, footprints, idOf, onRegion, without}
+use Rattle.model.specs.Calls.{known, tagFull, capFails, regionIn, withRegions, step, stepLen, growTests, grown, publishTests, publishedTo, dropped, capped, publishedAt}
+use Rattle.model.specs.Region.{Region, capacity, footprint, footprints, idOf, onRegion}
 use Rattle.model.specs.Span.{FreeSpan}
-use Rattle.model.specs.World.{World, TagRow, tagOf, putRow}
+use Rattle.model.specs.World.{World, TagRow, tagRow, tagOf}
 use Rattle.numbers.specs.Keyed.{HasKey}
 use Rattle.numbers.specs.Lists.{Distinct}
 use Rattle.numbers.specs.Range.{Range, range, Disjoint, Within}
 use Rattle.numbers.specs.Refusals.{first}
+use Rattle.tagspace.specs.declared.Cap.{Cap}
 use Rattle.model.proofs.Regions.{known-true, split, all-on, all-without, map-on, distinct-without, length-on, length-without, heldFront, heldBehind, held-parts, held-split, held-grown, held-dropped, held-kept}
 use Rattle.model.proofs.Rows.{put-few, put-ordered, put-tagged}
 use Rattle.model.proofs.Sound.{Regular, Sound}
@@ -159,7 +160,7 @@ max-is : (P : ℕ → Type 0) (m n : ℕ) → P m → P n → P (max m n)
 max-is P m n p q =
     by-lt m n (λ l. let e : n ≡ max m n = omega arith in subst P e q) (λ l. let e : m ≡ max m n = omega arith in subst P e p)
 
-pub published-sound : (w : World) → Sound w → (id len : ℕ) → Publishes w id len → Sound (withRegions w (onRegion id (publishedTo len) (w .regions)))
+pub published-sound : (w : World) → Sound w → (id len : ℕ) → Publishes w id len → Sound (publishedAt w id len)
 published-sound w s id len p =
     changed-sound w s id (p .known) (publishedTo len) (λ r. (refl, refl, refl, refl))
     (λ q.
@@ -184,7 +185,7 @@ disjoint-parts : (xs zs ys : List Range) → Disjoint (xs ++ (zs ++ ys)) → Dis
 disjoint-parts xs [] ys d = d
 disjoint-parts xs (z ∷ zs) ys d = disjoint-parts xs zs ys (disjoint-without xs z (zs ++ ys) d)
 
-pub dropped-sound : (w : World) → Sound w → (id : ℕ) → HasKey idOf id (w .regions) → Sound (withRegions w (without id (w .regions)))
+pub dropped-sound : (w : World) → Sound w → (id : ℕ) → HasKey idOf id (w .regions) → Sound (dropped w id)
 dropped-sound w s id k =
     let c = split id (w .regions) k in
     record {
@@ -208,8 +209,9 @@ dropped-sound w s id k =
 
 -- ---- cap
 
-pub capped-sound : (w : World) → Sound w → (t : TagRow) → tagFull w (t .tag) ≡ false → Sound (withRows w (putRow t (w .rows)))
-capped-sound w s t f =
+pub capped-sound : (w : World) → Sound w → (tag : ℕ) (limit : Cap) → tagFull w tag ≡ false → Sound (capped w tag limit)
+capped-sound w s tag limit f =
+    let t : TagRow = tagRow tag limit in
     record {
       low = s .low;
       high = s .high;

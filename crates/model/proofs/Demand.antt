@@ -22,7 +22,7 @@ use Rattle.model.proofs.Located.{region-regular, region-ends, located-a
 use Rattle.model.proofs.Opening.{opened-sound}
 use Rattle.model.proofs.Regions.{known-true, split, heldFront, heldBehind, held-split}
 use Rattle.model.proofs.Sound.{Sound}
-use Rattle.model.proofs.Spans.{by-search, block-some, none-found, found-least, none-free}
+use Rattle.model.proofs.Spans.{by-search, block-some, none-found, least-found, none-free}
 use Rattle.model.proofs.Stays.{byte-stays}
 use Rattle.model.proofs.Steps.{after-sound}
 use Rattle.numbers.proofs.Answers.{answer-number, answer-value, refused-is}
@@ -125,9 +125,10 @@ module _ (w : World) (s : Sound w) where
               by-search (leastFree w n)
               (λ a q. let r = refused-is _ _ 22 e .0 in absurd (omega (arith, r, room-left a q, low)))
               (λ q. none-free w n pos q);
-          placed = λ z p l.
-              let q = found-least w n pos p l in
-              answer-value _ _ (room-left p q ∙ z) ∙ ap accepted (byte ∙ q);
+          placed = λ z p f.
+              by-search (leastFree w n)
+              (λ a q. (a, least-found w n a q, answer-value _ _ (room-left a q ∙ z) ∙ ap accepted (byte ∙ q)))
+              (λ q. absurd (none-free w n pos q p f));
         }
 
   create-low : (id tag : ℕ) (name : List ℕ) → first (createTests w id tag name) < 22

@@ -18,7 +18,7 @@ use Rattle.model.proofs.Steps.{next-accepted}
 use Rattle.numbers.proofs.Cases.{by-eq, never}
 use Rattle.numbers.proofs.Disjoint.{MeetsNone, all-shared, disjoint-left, disjoint-between}
 use Rattle.numbers.proofs.Lists.{all-imp, all-none, all-right, any-parts, map-all}
-use Rattle.numbers.proofs.Refusals.{pass-none}
+use Rattle.numbers.proofs.Refusals.{none-first, pass-none}
 
 -- no other region has the number
 without-none : (id : ℕ) (rs : List Region) → Distinct (map idOf rs) → HasKey idOf id (without id rs) → ⊥
@@ -39,7 +39,7 @@ module _ (w : World) (s : Sound w) (id : ℕ) (k : known w id ≡ true) where
 
   drops : next w (drop id) ≡ accept w (drop id)
   unfolding refusalTo
-  drops = next-accepted w (drop id) (pass-none 16 _ (rw k))
+  drops = next-accepted w (drop id) (none-first _ (pass-none 16 _ (rw k), tt))
 
   -- its number is free for another region
   pub drop-forgets : known (next w (drop id)) id ≡ false

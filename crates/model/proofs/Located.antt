@@ -22,20 +22,17 @@ use Rattle.numbers.proofs.Answers.{answer-number, answer-value, not-both}
 use Rattle.numbers.proofs.Cases.{by-lt}
 use Rattle.numbers.proofs.Lists.{all-imp}
 use Rattle.regionmap.proofs.ByExtents.{neighbours, no-neighbours, reaches}
-use Rattle.regionmap.proofs.Bytes.{run-holds, run-only}
+use Rattle.regionmap.proofs.Bytes.{run-only}
 use Rattle.regionmap.proofs.Extents.{runs-laid}
 use Rattle.runs.proofs.Bytes.{Ends}
 use Rattle.runs.proofs.Positions.{in-one-run}
 
--- the run of a position holds it, and gives the byte of the extents laid end to end
+-- the run of a position gives the byte of the extents laid end to end
 module _ (xs : List Range) (whole : total xs ≤ top) (p : ℕ) (inside : p < total xs) where
   pub run-byte : runByte (runOf (runsOf xs) p) p ≡ byteOf xs p
   run-byte =
       let o = in-one-run xs p (omega arith) in
       ap (λ (r : Run). runByte r p) (sym (run-only (runsOf xs) (total xs) p (o .place) (runs-laid xs whole) (o .inside) (o .holds))) ∙ o .byte
-
-  pub run-reaches : p < runOf (runsOf xs) p .start + runOf (runsOf xs) p .len
-  run-reaches = run-holds (runsOf xs) (total xs) p (runs-laid xs whole) inside .upto
 
 -- Two neighbouring positions of a range have bytes that are no neighbours.
 pub record Jump (xs : List Range) (p n : ℕ) : Type 0 where

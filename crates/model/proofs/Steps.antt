@@ -6,10 +6,9 @@ use mathlib.Core.Option.{Option, none, some}
 use mathlib.Core.Path.{_≡_, refl, ap, sym, subst, _∙_}
 use native.Mathlib.Omega.{arith}
 use borrow.Author.Tests.{eq-eqb, ne-eqb, not-false}
-use Rattle.model.specs.Calls.{Call, create, grow, publish, drop, cap, locate, noRoom, headerLen, createTests, growTests, stepLen, regionIn, createdAt, grown, withRegions, refusalTo, byteFor, answerTo, accept, next, worldAfter, worldsAlong}
-use Rattle.model.specs.Region.{onRegion}
+use Rattle.model.specs.Calls.{Call, create, grow, publish, drop, cap, locate, noRoom, headerLen, createTests, growTests, stepLen, regionIn, createdAt, refusalTo, byteFor, answerTo, accept, next, worldAfter, worldsAlong, grownAt}
 use Rattle.model.specs.Span.{LeastFree, leastFree, isNone, orZero}
-use Rattle.model.specs.World.{World, tagRow}
+use Rattle.model.specs.World.{World}
 use Rattle.numbers.specs.Lists.{All}
 use Rattle.numbers.specs.Refusals.{accepted, refuse, first}
 use Rattle.model.proofs.Change.{grows, grown-sound, publishes, published-sound, dropped-sound, capped-sound, step-len-some}
@@ -61,7 +60,7 @@ with-room w tests n z =
 -- ---- every call
 
 pub accept-sound : (w : World) → Sound w → (c : Call) → refusalTo w c ≡ 0 → Sound (accept w c)
-unfolding refusalTo accept
+unfolding refusalTo byteFor accept
 accept-sound w s (create id tag name) z =
     let p = with-room w (createTests w id tag name) (headerLen w) z in
     let r = p .1 in
@@ -72,8 +71,8 @@ accept-sound w s (grow id) z =
     let r = p .1 in
     rw (r .is) (grown-sound w s id (grows w id (p .0)) (r .at) n (step-len-some w (regionIn w id)) (r .least .free))
 accept-sound w s (publish id len) z = published-sound w s id len (publishes w id len z)
-accept-sound w s (drop id) z = dropped-sound w s id (known-true w id (not-false _ (refuse-none 16 _ (omega arith) z)))
-accept-sound w s (cap tag limit) z = capped-sound w s (tagRow tag limit) (refuse-none 19 _ (omega arith) z)
+accept-sound w s (drop id) z = dropped-sound w s id (known-true w id (not-false _ (refuse-none 16 _ (omega arith) (first-none _ _ z .0))))
+accept-sound w s (cap tag limit) z = capped-sound w s tag limit (refuse-none 19 _ (omega arith) (first-none _ _ z .0))
 accept-sound w s (locate id pos n) z = s
 
 pub next-sound : (w : World) → Sound w → (c : Call) → Sound (next w c)
@@ -106,9 +105,9 @@ created-next w id tag name a z e =
     (answer-value _ _ r ∙ ap accepted e, next-accepted w (create id tag name) r ∙ ap (λ (o : Option ℕ). createdAt w id tag name (orZero o)) e)
 
 pub grown-next : (w : World) (id a : ℕ) → first (growTests w id) ≡ 0 → leastFree w (stepLen w (regionIn w id)) ≡ some a
-    → (answerTo w (grow id) ≡ accepted (some a)) × (next w (grow id) ≡ withRegions w (onRegion id (grown a (stepLen w (regionIn w id))) (w .regions)))
+    → (answerTo w (grow id) ≡ accepted (some a)) × (next w (grow id) ≡ grownAt w id a)
 unfolding refusalTo byteFor accept
 grown-next w id a z e =
     let n : ℕ = stepLen w (regionIn w id) in
     let r = room-passes w (growTests w id) n a z e in
-    (answer-value _ _ r ∙ ap accepted e, next-accepted w (grow id) r ∙ ap (λ (o : Option ℕ). withRegions w (onRegion id (grown (orZero o) n) (w .regions))) e)
+    (answer-value _ _ r ∙ ap accepted e, next-accepted w (grow id) r ∙ ap (λ (o : Option ℕ). grownAt w id (orZero o)) e)

@@ -137,6 +137,10 @@ growTests w id =
 abbrev pub grown : (a n : ℕ) → Region → Region
 grown a n r = withData (r .extents ++ (range a n ∷ [])) (r .published) (min (r .span-start) a) (max (r .span-end) (a + n)) r
 
+-- With that region grown at a.
+abbrev pub grownAt : World → (id a : ℕ) → World
+grownAt w id a = withRegions w (onRegion id (grown a (stepLen w (regionIn w id))) (w .regions))
+
 -- ---- publish
 
 -- 10. ".. published length is no multiple of the header's block", which can be asked only of a known region; 23. "A .. length ..
@@ -150,6 +154,25 @@ publishTests w id len =
 -- "`publish_len` never lowers."
 abbrev pub publishedTo : ℕ → Region → Region
 publishedTo len r = withData (r .extents) (max (r .published) len) (r .span-start) (r .span-end) r
+
+abbrev pub publishedAt : World → (id len : ℕ) → World
+publishedAt w id len = withRegions w (onRegion id (publishedTo len) (w .regions))
+
+-- ---- drop and cap
+
+abbrev pub dropTests : World → ℕ → List ℕ
+dropTests w id = refuse 16 (not (known w id)) ∷ []
+
+-- "its bytes are free for the next call"; its tag's row stays.
+abbrev pub dropped : World → ℕ → World
+dropped w id = withRegions w (without id (w .regions))
+
+abbrev pub capTests : World → ℕ → List ℕ
+capTests w tag = refuse 19 (tagFull w tag) ∷ []
+
+-- A cap below what is used is a cap like others.
+abbrev pub capped : World → ℕ → Cap → World
+capped w tag limit = withRows w (putRow (tagRow tag limit) (w .rows))
 
 -- ---- locate
 
@@ -171,8 +194,8 @@ unfoldable pub refusalTo : World → Call → ℕ
 refusalTo w (create id tag name) = first (createTests w id tag name ++ (refuse 22 (noRoom w (headerLen w)) ∷ []))
 refusalTo w (grow id) = first (growTests w id ++ (refuse 22 (noRoom w (stepLen w (regionIn w id))) ∷ []))
 refusalTo w (publish id len) = first (publishTests w id len)
-refusalTo w (drop id) = refuse 16 (not (known w id))
-refusalTo w (cap tag limit) = refuse 19 (tagFull w tag)
+refusalTo w (drop id) = first (dropTests w id)
+refusalTo w (cap tag limit) = first (capTests w tag)
 refusalTo w (locate id pos n) = first (locateTests w id pos n)
 
 -- The byte of an accepted call: "placed", by create that of its first header block, or "located": "Position p in the run starting
@@ -189,15 +212,13 @@ byteFor w (locate id pos n) = some (runByte (runAt (regionIn w id) pos) pos)
 abbrev pub answerTo : World → Call → Answer (Option ℕ)
 answerTo w c = answer (refusalTo w c) (byteFor w c)
 
--- What an accepted call makes of the world.
+-- What an accepted call makes of the world; create and grow take the place that they answer.
 unfoldable pub accept : World → Call → World
-accept w (create id tag name) = createdAt w id tag name (orZero (leastFree w (headerLen w)))
-accept w (grow id) =
-    withRegions w (onRegion id (grown (orZero (leastFree w (stepLen w (regionIn w id)))) (stepLen w (regionIn w id))) (w .regions))
-accept w (publish id len) = withRegions w (onRegion id (publishedTo len) (w .regions))
--- "its bytes are free for the next call"; its tag's row stays
-accept w (drop id) = withRegions w (without id (w .regions))
-accept w (cap tag limit) = withRows w (putRow (tagRow tag limit) (w .rows))
+accept w (create id tag name) = createdAt w id tag name (orZero (byteFor w (create id tag name)))
+accept w (grow id) = grownAt w id (orZero (byteFor w (grow id)))
+accept w (publish id len) = publishedAt w id len
+accept w (drop id) = dropped w id
+accept w (cap tag limit) = capped w tag limit
 accept w (locate id pos n) = w
 
 -- "A refused call .. changes nothing".

@@ -27,11 +27,11 @@ Keeps w id [] = Unit {0}
 Keeps w id (c ∷ cs) = (c ≡ drop id → refusalTo w c ≡ 0 → ⊥) × Keeps (next w c) id cs
 
 -- A call that wants n bytes, and the tests before that of room: where they pass, it is refused for room where no span is free, and
--- nowhere else; and the lowest free span is the one that it takes.
+-- nowhere else; where one is free, it takes the lowest.
 pub record Room (w : World) (tests : List ℕ) (n : ℕ) (c : Call) : Type 0 where
   pub full : first tests ≡ 0 → ((p : ℕ) → FreeSpan w n p → ⊥) → answerTo w c ≡ refused 22
   pub only-full : answerTo w c ≡ refused 22 → (p : ℕ) → FreeSpan w n p → ⊥
-  pub placed : first tests ≡ 0 → (p : ℕ) → LeastFree w n p → answerTo w c ≡ accepted (some p)
+  pub placed : first tests ≡ 0 → (p : ℕ) → FreeSpan w n p → (a : ℕ) × LeastFree w n a × (answerTo w c ≡ accepted (some a))
 
 pub record Demand (w : World) : Type 0 where
   -- every published position is located, at the byte of the region's own extents laid end to end

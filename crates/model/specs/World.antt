@@ -82,6 +82,6 @@ putRow t ts = putKeyed tagOf t ts
 abbrev pub withTag : ℕ → List TagRow → List TagRow
 withTag tag ts = putRow (rowOf tag ts) ts
 
--- A tag's account; "nothing is reserved".
+-- A tag's account, of which `fits` is asked; "nothing is reserved".
 abbrev pub accountOf : World → ℕ → TagSpace
 accountOf w tag = record { tag = tag; logical = logical w tag; physical = physical w tag; reserved = 0; cap = rowOf tag (w .rows) .cap }
