@@ -1,18 +1,18 @@
 -- An accepted drop: the region is unknown then, and its bytes are free.
-use Prim.Native.Nat.{ℕ, _+_}
+use Prim.Native.Nat.{ℕ}
 use mathlib.Core.Bool.{true, false}
 use mathlib.Core.List.{List, [], _∷_, _++_, map}
 use mathlib.Core.Logic.{⊎-elim}
 use mathlib.Core.Path.{_≡_, sym, subst, _∙_}
 use borrow.Author.Tests.{eq-eqb, ne-eqb}
 use Rattle.freemap.specs.Gaps.{Covered}
-use Rattle.model.specs.Calls.{drop, known, regionIn, refusalTo, accept, next}
-use Rattle.model.specs.Region.{Region, footprint, footprintLen, footprints, idOf, without}
-use Rattle.model.specs.World.{World, heldRanges, held}
+use Rattle.model.specs.Calls.{drop, known, regionIn, refusalTo, accept, dropped, next}
+use Rattle.model.specs.Region.{Region, footprint, footprints, idOf, without}
+use Rattle.model.specs.World.{World, heldRanges}
 use Rattle.numbers.specs.Keyed.{HasKey}
 use Rattle.numbers.specs.Lists.{Distinct}
 use Rattle.numbers.specs.Range.{Range, Has, Disjoint}
-use Rattle.model.proofs.Regions.{known-true, split, held-split, held-dropped, sum-without}
+use Rattle.model.proofs.Regions.{known-true, split, held-split, held-dropped}
 use Rattle.model.proofs.Sound.{Sound}
 use Rattle.model.proofs.Steps.{next-accepted}
 use Rattle.numbers.proofs.Cases.{by-eq, never}
@@ -37,31 +37,24 @@ module _ (w : World) (s : Sound w) (id : ℕ) (k : known w id ≡ true) where
   h : HasKey idOf id (w .regions)
   h = known-true w id k
 
-  drops : next w (drop id) ≡ accept w (drop id)
-  unfolding refusalTo
-  drops = next-accepted w (drop id) (none-first _ (pass-none 16 _ (rw k), tt))
+  pub drop-next : next w (drop id) ≡ dropped w id
+  unfolding refusalTo accept
+  drop-next = next-accepted w (drop id) (none-first _ (pass-none 16 _ (rw k), tt))
 
   -- its number is free for another region
   pub drop-forgets : known (next w (drop id)) id ≡ false
-  unfolding accept
-  drop-forgets = rw drops (never _ (λ e. without-none id (w .regions) (s .numbers) (known-true (accept w (drop id)) id e)))
+  drop-forgets = rw drop-next (never _ (λ e. without-none id (w .regions) (s .numbers) (known-true (dropped w id) id e)))
 
   -- "its bytes are free for the next call"
   pub drop-frees : (b : ℕ) → Covered (footprint (w .limits) (regionIn w id)) b → Covered (heldRanges (next w (drop id))) b → ⊥
-  unfolding accept
   drop-frees b c =
       let t = split id (w .regions) h in
       let xs = footprints (w .limits) (t .front) in
       let fs = footprint (w .limits) (regionIn w id) in
       let ys = footprints (w .limits) (t .behind) in
       let d : Disjoint ((xs ++ fs) ++ ys) = subst Disjoint (held-split (w .limits) id (w .regions) t) (s .apart) in
-      rw (drops, held-dropped (w .limits) id (w .regions) t)
+      rw (drop-next, held-dropped (w .limits) id (w .regions) t)
       (λ a.
       ⊎-elim (λ g. all-shared xs fs (disjoint-between xs fs (disjoint-left (xs ++ fs) ys d)) b g c)
       (all-shared fs ys (all-right (λ (x : Range). MeetsNone x ys) xs fs (disjoint-between (xs ++ fs) ys d)) b c)
       (any-parts (λ (x : Range). Has x b) xs ys a))
-
-  -- as many bytes fewer are held
-  pub drop-held : held (next w (drop id)) + footprintLen (w .limits) (regionIn w id) ≡ held w
-  unfolding accept
-  drop-held = rw drops (sum-without (footprintLen (w .limits)) id (w .regions) h)

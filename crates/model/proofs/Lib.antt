@@ -8,6 +8,7 @@ pub mod Steps
 pub mod Figures
 pub mod Located
 pub mod Stays
+pub mod Totals
 pub mod Drops
 pub mod Opening
 pub mod Refused
