@@ -151,7 +151,8 @@ module _ (w : World) (s : Sound w) where
   sound-demand =
       record {
         located = λ id p b.
-            located-at w s id (b .region) p 1 (omega (arith, b .below)) (omega arith) (λ j. omega (arith, j .from, j .upto));
+            let q = region-regular w s id (known-true w id (b .region)) .size in
+            located-at w s id (b .region) p 1 (omega (arith, b .below)) (omega (arith, b .below, q)) (λ j. omega (arith, j .from, j .upto));
         own = own-byte;
         stays = λ id p cs. byte-stays id p w s cs;
         figures = held-and-free w s;

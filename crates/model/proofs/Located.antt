@@ -109,7 +109,13 @@ module _ (w : World) (s : Sound w) (id : ℕ) (k : known w id ≡ true) (p n : �
         (λ i. let u = reaches xs (region-ends w s id h) whole p (omega (arith, size)) in absurd (omega (arith, size))))
         (λ m. absurd (not-both _ 24 (sym (in-run m) ∙ e)))
 
-    pub located-at : 0 < n → (Jump xs p n → ⊥) → answerTo w (locate id p n) ≡ accepted (some (byteOf xs p))
-    located-at z d =
-        by-lt reach (p + n) (λ m. absurd (d (refused-jump (past-run m))))
-        (λ m. in-run m ∙ ap (λ (b : ℕ). accepted (some b)) (run-byte xs whole p (omega (arith, size))))
+    pub answered : (Jump xs p n → ⊥) → answerTo w (locate id p n) ≡ accepted (some (runByte (runAt r p) p))
+    answered d = by-lt reach (p + n) (λ m. absurd (d (refused-jump (past-run m)))) in-run
+
+    pub located-at : p < total xs → (Jump xs p n → ⊥) → answerTo w (locate id p n) ≡ accepted (some (byteOf xs p))
+    located-at i d = answered d ∙ ap (λ (b : ℕ). accepted (some b)) (run-byte xs whole p i)
+
+-- "`locate` of length 0 at the data's end is answered", and so is every other of length 0
+pub none-answered : (w : World) → Sound w → (id : ℕ) → known w id ≡ true → (p : ℕ) → p ≤ regionIn w id .published
+    → answerTo w (locate id p 0) ≡ accepted (some (runByte (runAt (regionIn w id) p) p))
+none-answered w s id k p l = answered w s id k p 0 (omega arith) (λ j. omega (arith, j .from, j .upto))
