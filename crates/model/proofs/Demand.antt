@@ -1,7 +1,7 @@
 -- Demand 3 of the model: the claim of specs/Demand, of every world that an accepted open starts and a list of calls reaches.
 use Prim.Native.Nat.{ℕ, _<_}
 use mathlib.Core.List.{List, [], _∷_, _++_}
-use mathlib.Core.Logic.{inr, ⊎-elim}
+use mathlib.Core.Logic.{inr}
 use mathlib.Core.Option.{none, some}
 use mathlib.Core.Path.{_≡_, refl, ap, sym, subst, _∙_}
 use native.Mathlib.Omega.{arith}
@@ -17,6 +17,7 @@ use Rattle.numbers.specs.Keyed.{HasKey}
 use Rattle.numbers.specs.Range.{Range, Has, Disjoint}
 use Rattle.numbers.specs.Refusals.{accepted, refuse, first}
 use Rattle.model.proofs.Change.{step-len-some}
+use Rattle.model.proofs.Drops.{drop-unknown}
 use Rattle.model.proofs.Figures.{held-and-free, held-most, physical-most, logical-most}
 use Rattle.model.proofs.Located.{region-regular, region-ends, located-at}
 use Rattle.model.proofs.Opening.{opened-sound}
@@ -28,7 +29,7 @@ use Rattle.model.proofs.Steps.{after-sound}
 use Rattle.numbers.proofs.Answers.{answer-number, answer-value, refused-is}
 use Rattle.numbers.proofs.Cases.{by-eq}
 use Rattle.numbers.proofs.Disjoint.{all-shared, disjoint-left, disjoint-right, disjoint-between}
-use Rattle.numbers.proofs.Keyed.{keyed-here, keyed-later}
+use Rattle.numbers.proofs.Keyed.{has-later, keyed-here, keyed-later}
 use Rattle.numbers.proofs.Lists.{any-left, any-right}
 use Rattle.numbers.proofs.Refusals.{first-go, first-stop, first-low, refuse-low, none-first}
 use Rattle.runs.proofs.Bytes.{byte-in, byte-own}
@@ -47,7 +48,7 @@ module _ (lim : Limits) (b : ℕ) where
       by-eq (r .number) id
       (λ e. any-left (λ (x : Range). Has x b) (footprint lim r) (footprints lim rs) (subst (λ (q : Region). In (footprint lim q)) (keyed-here idOf noRegion id r rs e) c))
       (λ d. any-right (λ (x : Range). Has x b) (footprint lim r) (footprints lim rs)
-      (region-held id rs (⊎-elim (λ e. absurd (d e)) (λ a. a) k) (subst (λ (q : Region). In (footprint lim q)) (keyed-later idOf noRegion id r rs d) c)))
+      (region-held id rs (has-later idOf id r rs d k) (subst (λ (q : Region). In (footprint lim q)) (keyed-later idOf noRegion id r rs d) c)))
 
   -- by one region alone
   one-owner : (id jd : ℕ) (rs : List Region) → Disjoint (footprints lim rs) → HasKey idOf id rs → HasKey idOf jd rs
@@ -59,7 +60,7 @@ module _ (lim : Limits) (b : ℕ) where
       (λ e. by-eq (r .number) jd (λ f. sym e ∙ f) (λ f. absurd (first-only id jd e f l c d)))
       (λ e. by-eq (r .number) jd (λ f. absurd (first-only jd id f e k d c))
       (λ f.
-      one-owner id jd rs (disjoint-right (footprint lim r) (footprints lim rs) a) (⊎-elim (λ q. absurd (e q)) (λ t. t) k) (⊎-elim (λ q. absurd (f q)) (λ t. t) l)
+      one-owner id jd rs (disjoint-right (footprint lim r) (footprints lim rs) a) (has-later idOf id r rs e k) (has-later idOf jd r rs f l)
       (later id e c) (later jd f d)))
     where
       later : (n : ℕ) → (r .number ≡ n → ⊥) → In (footprint lim (regionOf n (r ∷ rs))) → In (footprint lim (regionOf n rs))
@@ -70,7 +71,7 @@ module _ (lim : Limits) (b : ℕ) where
       first-only i j e f l c d =
           all-shared (footprint lim r) (footprints lim rs) (disjoint-between (footprint lim r) (footprints lim rs) a) b
           (subst (λ (q : Region). In (footprint lim q)) (keyed-here idOf noRegion i r rs e) c)
-          (region-held j rs (⊎-elim (λ q. absurd (f q)) (λ t. t) l) (later j f d))
+          (region-held j rs (has-later idOf j r rs f l) (later j f d))
 
 module _ (w : World) (s : Sound w) where
   -- the byte of a published position is one of the region's
@@ -155,6 +156,7 @@ module _ (w : World) (s : Sound w) where
             located-at w s id (b .region) p 1 (omega (arith, b .below)) (omega (arith, b .below, q)) (λ j. omega (arith, j .from, j .upto));
         own = own-byte;
         stays = λ id p cs. byte-stays id p w s cs;
+        forgets = drop-unknown w s;
         figures = held-and-free w s;
         totals = λ tag. let h = held-most w s in (omega (arith, physical-most w s tag), omega (arith, logical-most w s tag));
         create-room = λ id tag name.

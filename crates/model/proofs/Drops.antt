@@ -3,7 +3,8 @@ use Prim.Native.Nat.{ℕ}
 use mathlib.Core.Bool.{true, false}
 use mathlib.Core.List.{List, [], _∷_, _++_, map}
 use mathlib.Core.Logic.{⊎-elim}
-use mathlib.Core.Path.{_≡_, sym, subst, _∙_}
+use mathlib.Core.Path.{_≡_, ap, sym, subst, _∙_}
+use native.Mathlib.Omega.{arith}
 use borrow.Author.Tests.{eq-eqb, ne-eqb}
 use Rattle.freemap.specs.Gaps.{Covered}
 use Rattle.model.specs.Calls.{drop, known, regionIn, refusalTo, accept, dropped, next}
@@ -12,10 +13,11 @@ use Rattle.model.specs.World.{World, heldRanges}
 use Rattle.numbers.specs.Keyed.{HasKey}
 use Rattle.numbers.specs.Lists.{Distinct}
 use Rattle.numbers.specs.Range.{Range, Has, Disjoint}
+use Rattle.numbers.specs.Refusals.{first, refuse}
 use Rattle.model.proofs.Regions.{known-true, split, held-split, held-dropped}
 use Rattle.model.proofs.Sound.{Sound}
-use Rattle.model.proofs.Steps.{next-accepted}
-use Rattle.numbers.proofs.Cases.{by-eq, never}
+use Rattle.model.proofs.Steps.{next-accepted, next-refused}
+use Rattle.numbers.proofs.Cases.{cases, by-eq, never}
 use Rattle.numbers.proofs.Disjoint.{MeetsNone, all-shared, disjoint-left, disjoint-between}
 use Rattle.numbers.proofs.Lists.{all-imp, all-none, all-right, any-parts, map-all}
 use Rattle.numbers.proofs.Refusals.{none-first, pass-none}
@@ -58,3 +60,10 @@ module _ (w : World) (s : Sound w) (id : ℕ) (k : known w id ≡ true) where
       ⊎-elim (λ g. all-shared xs fs (disjoint-between xs fs (disjoint-left (xs ++ fs) ys d)) b g c)
       (all-shared fs ys (all-right (λ (x : Range). MeetsNone x ys) xs fs (disjoint-between (xs ++ fs) ys d)) b c)
       (any-parts (λ (x : Range). Has x b) xs ys a))
+
+-- after a drop, accepted or refused, the number is unknown
+pub drop-unknown : (w : World) → Sound w → (id : ℕ) → known (next w (drop id)) id ≡ false
+unfolding refusalTo first refuse
+drop-unknown w s id =
+    cases (known w id) (λ k. drop-forgets w s id k)
+    (λ k. let e : refusalTo w (drop id) ≡ 16 = simp k in ap (λ (v : World). known v id) (next-refused w (drop id) (λ z. omega (arith, e, z))) ∙ k)

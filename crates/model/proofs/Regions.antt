@@ -17,6 +17,7 @@ use Rattle.numbers.specs.Lists.{All, keep, Distinct}
 use Rattle.numbers.specs.Range.{Range, range, total}
 use Rattle.numbers.specs.Sums.{sum}
 use Rattle.numbers.proofs.Cases.{by-eq}
+use Rattle.numbers.proofs.Keyed.{has-later}
 use Rattle.numbers.proofs.Lists.{all-append, all-left, all-right, all-map, map-all, any-imp, any-true, of-any}
 use Rattle.numbers.proofs.Sums.{total-append}
 
@@ -67,7 +68,7 @@ module _ (id : ℕ) (r : Region) (rs : List Region) where
 pub split : (id : ℕ) (rs : List Region) → HasKey idOf id rs → Split id rs
 split id [] h = absurd h
 split id (r ∷ rs) h =
-    by-eq (r .number) id (split-here id r rs) (λ d. split-later id r rs d (split id rs (⊎-elim (λ e. absurd (d e)) (λ a. a) h)))
+    by-eq (r .number) id (split-here id r rs) (λ d. split-later id r rs d (split id rs (has-later idOf id r rs d h)))
 
 -- ---- what is true of every region
 
@@ -119,14 +120,14 @@ module _ (h : Region → ℕ) (id : ℕ) where
   sum-on f [] k = absurd k
   sum-on f (r ∷ rs) k =
       by-eq (r .number) id (λ e. simp (eq-eqb _ _ e) (omega arith))
-      (λ d. let i = sum-on f rs (⊎-elim (λ e. absurd (d e)) (λ a. a) k) in simp (ne-eqb _ _ d) (omega arith))
+      (λ d. let i = sum-on f rs (has-later idOf id r rs d k) in simp (ne-eqb _ _ d) (omega arith))
 
   pub sum-without : (rs : List Region) → HasKey idOf id rs → sum (map h (without id rs)) + h (regionOf id rs) ≡ sum (map h rs)
   unfolding keyed without sum
   sum-without [] k = absurd k
   sum-without (r ∷ rs) k =
       by-eq (r .number) id (λ e. simp (eq-eqb _ _ e) (omega arith))
-      (λ d. let i = sum-without rs (⊎-elim (λ e. absurd (d e)) (λ a. a) k) in simp (ne-eqb _ _ d) (omega arith))
+      (λ d. let i = sum-without rs (has-later idOf id r rs d k) in simp (ne-eqb _ _ d) (omega arith))
 
 -- a tag's sum counts the other regions as nothing
 pub sum-tag : (h : Region → ℕ) (tag : ℕ) (rs : List Region) → sum (map h (ofTag tag rs)) ≡ sum (map (λ (r : Region). cond (eqb (r .tag) tag) (h r) 0) rs)
@@ -169,7 +170,7 @@ module _ (id : ℕ) (f : Region → Region) (keeps : (r : Region) → f r .numbe
   region-on [] k = absurd k
   region-on (r ∷ rs) k =
       by-eq (r .number) id (λ e. simp (eq-eqb _ _ e, eq-eqb _ _ (keeps r ∙ e)))
-      (λ d. simp (ne-eqb _ _ d) (region-on rs (⊎-elim (λ e. absurd (d e)) (λ a. a) k)))
+      (λ d. simp (ne-eqb _ _ d) (region-on rs (has-later idOf id r rs d k)))
 
   pub other-on : (n : ℕ) → (n ≡ id → ⊥) → (rs : List Region) → regionOf n (onRegion id f rs) ≡ regionOf n rs
   unfolding keyed onRegion
@@ -198,7 +199,7 @@ module _ (id n : ℕ) (d : n ≡ id → ⊥) where
   unfolding without
   has-without [] h = h
   has-without (r ∷ rs) h =
-      by-eq (r .number) id (λ e. simp (eq-eqb _ _ e) (⊎-elim (λ q. absurd (d (sym q ∙ e))) (λ a. a) h))
+      by-eq (r .number) id (λ e. simp (eq-eqb _ _ e) (has-later idOf n r rs (λ q. d (sym q ∙ e)) h))
       (λ e. simp (ne-eqb _ _ e) (⊎-elim (λ q. inl q) (λ a. inr (has-without rs a)) h))
 
 -- with one more behind them
@@ -208,7 +209,7 @@ module _ (n : ℕ) (q : Region) where
   region-behind [] h = absurd h
   region-behind (r ∷ rs) h =
       by-eq (r .number) n (λ e. simp (eq-eqb _ _ e))
-      (λ d. simp (ne-eqb _ _ d) (region-behind rs (⊎-elim (λ e. absurd (d e)) (λ a. a) h)))
+      (λ d. simp (ne-eqb _ _ d) (region-behind rs (has-later idOf n r rs d h)))
 
   pub has-behind : (rs : List Region) → HasKey idOf n rs → HasKey idOf n (rs ++ (q ∷ []))
   has-behind [] h = absurd h

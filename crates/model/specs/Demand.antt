@@ -1,7 +1,7 @@
 -- Document 01, "Demand 3 is one claim about the list", of the model: what is claimed of the world after every list of calls on an
 -- opened plan. `demand` (proofs/Demand) proves it.
 use Prim.Native.Nat.{ℕ, _+_, _-_, _≤_, _<_}
-use mathlib.Core.Bool.{true}
+use mathlib.Core.Bool.{true, false}
 use mathlib.Core.List.{List, [], _∷_}
 use mathlib.Core.Option.{some}
 use mathlib.Core.Path.{_≡_}
@@ -21,7 +21,7 @@ pub record Published (w : World) (id p : ℕ) : Type 0 where
 abbrev pub byteAt : World → ℕ → ℕ → ℕ
 byteAt w id p = byteOf (regionIn w id .extents) p
 
--- No call of a list is an accepted drop of the region id. One that is created again afterwards is another region.
+-- No call of a list is an accepted drop of the region id.
 abbrev pub Keeps : World → ℕ → List Call → Type 0
 Keeps w id [] = Unit {0}
 Keeps w id (c ∷ cs) = (c ≡ drop id → refusalTo w c ≡ 0 → ⊥) × Keeps (next w c) id cs
@@ -41,6 +41,8 @@ pub record Demand (w : World) : Type 0 where
   -- such a byte stays until an accepted drop of the region
   pub stays : (id p : ℕ) (cs : List Call) → Published w id p → Keeps w id cs
       → Published (worldAfter w cs) id p × (byteAt (worldAfter w cs) id p ≡ byteAt w id p)
+  -- a dropped region is unknown, so that one created again under its number is another
+  pub forgets : (id : ℕ) → known (next w (drop id)) id ≡ false
   -- held and free make up the container behind its table
   pub figures : held w + free w ≡ w .limits .«file_len» - w .limits .«table_end»
   -- no tag's total passes 2^64 - 1, so that the accounts, whose sums stop there, can tell it

@@ -17,6 +17,7 @@ use Rattle.numbers.specs.Sums.{sum}
 use Rattle.settle.specs.Settle.{marksOf}
 use Rattle.settle.specs.Regions as settling
 
+-- A region's number, tag and name, with its table entry and its header.
 pub record Record : Type 0 where
   pub number : ℕ
   pub tag : ℕ

@@ -18,6 +18,9 @@ module _ {P : Type 0} where
   pub by-eq : (m n : ℕ) → (m ≡ n → P) → ((m ≡ n → ⊥) → P) → P
   by-eq m n f g = cases (eqb m n) (λ e. f (eqb-true m n e)) (λ e. g (eqb-false m n e))
 
+  pub by-order : (m n : ℕ) → (m < n → P) → (m ≡ n → P) → (n < m → P) → P
+  by-order m n f g h = by-lt m n f (λ l. by-eq m n g (λ e. h (omega arith)))
+
   -- a test is not both
   pub clash : {b : Bool} → b ≡ true → b ≡ false → P
   clash t f = let z : true ≡ false = sym t ∙ f in let e : _≡_ {A = ℕ} 0 1 = cc in absurd (omega arith)

@@ -10,11 +10,8 @@ use lib.Seq.{set-split, split-at}
 use borrow.Author.Tests.{lt-ltb, le-ltb, eq-eqb, ne-eqb}
 use Rattle.numbers.specs.Keyed.{HasKey, InKeyOrder, keyed, putKeyed}
 use Rattle.numbers.specs.Lists.{All, Any}
-use Rattle.numbers.proofs.Cases.{by-lt, by-eq}
+use Rattle.numbers.proofs.Cases.{by-lt, by-eq, by-order}
 use Rattle.numbers.proofs.Lists.{all-at, all-imp, all-none, pairwise-before}
-
-by-order : {P : Type 0} (m n : ℕ) → (m < n → P) → (m ≡ n → P) → (n < m → P) → P
-by-order m n f g h = by-lt m n f (λ l. by-eq m n g (λ e. h (omega arith)))
 
 -- all keys are lower than n, or higher
 abbrev pub Lower : {A : Type 0} → (A → ℕ) → ℕ → List A → Type 0
@@ -25,7 +22,7 @@ Higher {A} key n xs = All (λ (y : A). n < key y) xs
 
 module _ {A : Type 0} (key : A → ℕ) where
   -- an element that is not the first is behind it
-  has-later : (n : ℕ) (x : A) (xs : List A) → (key x ≡ n → ⊥) → HasKey key n (x ∷ xs) → HasKey key n xs
+  pub has-later : (n : ℕ) (x : A) (xs : List A) → (key x ≡ n → ⊥) → HasKey key n (x ∷ xs) → HasKey key n xs
   has-later n x xs d h = ⊎-elim (λ e. absurd (d e)) (λ a. a) h
 
   -- behind a first element whose key is below all others' stand higher keys
