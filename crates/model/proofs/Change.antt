@@ -64,10 +64,7 @@ module _ (w : World) (s : Sound w) (id : ℕ) (k : HasKey idOf id (w .regions)) 
       → Sound (withRegions w (onRegion id f (w .regions)))
   changed-sound same g d =
       record {
-        low = s .low;
-        high = s .high;
-        table = s .table;
-        file = s .file;
+        container = s .container;
         few = let n = length-on id f (w .regions) in omega (arith, n, s .few);
         regular = all-on (Regular (w .limits)) id f (w .regions) k g (s .regular);
         numbers = subst Distinct (sym (map-on (λ (r : Region). r .number) id f (λ r. same r .0) (w .regions))) (s .numbers);
@@ -189,10 +186,7 @@ pub dropped-sound : (w : World) → Sound w → (id : ℕ) → HasKey idOf id (w
 dropped-sound w s id k =
     let c = split id (w .regions) k in
     record {
-      low = s .low;
-      high = s .high;
-      table = s .table;
-      file = s .file;
+      container = s .container;
       few = let n = length-without id (w .regions) in omega (arith, n, s .few);
       regular = all-without (Regular (w .limits)) id (w .regions) (s .regular);
       numbers = distinct-without (λ (r : Region). r .number) id (w .regions) (s .numbers);
@@ -213,10 +207,7 @@ pub capped-sound : (w : World) → Sound w → (tag : ℕ) (limit : Cap) → tag
 capped-sound w s tag limit f =
     let t : TagRow = tagRow tag limit in
     record {
-      low = s .low;
-      high = s .high;
-      table = s .table;
-      file = s .file;
+      container = s .container;
       few = s .few;
       regular = s .regular;
       numbers = s .numbers;

@@ -6,11 +6,11 @@ use mathlib.Core.Logic.{inr}
 use mathlib.Core.Path.{_≡_, refl, subst, _∙_}
 use native.Mathlib.Nat.{add-mod-right, zero-mod}
 use native.Mathlib.Omega.{arith}
-use lib.Dec.{eqb, leb}
+use lib.Dec.{leb}
 use lib.ListN.{length, length-append}
 use borrow.Author.Tests.{ltb-false, leb-false, eqb-false}
 use Rattle.model.specs.Calls.{known, named, tagFull, capFails, headerLen, createTests, created, createdAt}
-use Rattle.model.specs.Region.{Region, footprint, footprints}
+use Rattle.model.specs.Region.{Region, footprint, footprints, idOf}
 use Rattle.model.specs.Span.{FreeSpan}
 use Rattle.model.specs.World.{World, TagRow, tagOf, block, heldRanges, rowOf, withTag}
 use Rattle.numbers.specs.Keyed.{HasKey}
@@ -23,6 +23,7 @@ use Rattle.model.proofs.Rows.{row-tag, with-own, put-few, put-ordered, 
 use Rattle.model.proofs.Sound.{Regular, Sound}
 use Rattle.numbers.proofs.Cases.{clash, or-false}
 use Rattle.numbers.proofs.Disjoint.{MeetsNone, none-sym, disjoint-append}
+use Rattle.numbers.proofs.Keyed.{key-false}
 use Rattle.numbers.proofs.Lists.{all-append, all-imp, all-both, any-false, true-same}
 use Rattle.numbers.proofs.Ranges.{apart, end-exact, end-le}
 use Rattle.numbers.proofs.Refusals.{first-none, refuse-none}
@@ -85,16 +86,14 @@ module _ (w : World) (s : Sound w) (id tag : ℕ) (name : List ℕ) (c : Creates
       let b = m .left .from in
       let u = m .left .upto in
       let e = end-le (range (a + k) (block w)) in
-      let g = end-exact (range a (headerLen w)) (omega (arith, f .upto, s .file)) in
+      let g = end-exact (range a (headerLen w)) (omega (arith, f .upto, s .container .file)) in
       n (record { byte = m .byte; left = record { from = omega arith; upto = omega arith }; right = m .right }))
       (heldRanges w) (f .apart)
 
   -- no region has its number, none its name
   new-number : All (λ (q : Region). q .number ≡ id → ⊥) (w .regions)
   unfolding known
-  new-number =
-      all-imp (λ (q : Region). eqb (q .number) id ≡ false) (λ (q : Region). q .number ≡ id → ⊥) (λ q. eqb-false _ _) (w .regions)
-      (any-false (λ (q : Region). eqb (q .number) id) (w .regions) (c .new))
+  new-number = key-false idOf id (w .regions) (c .new)
 
   new-name : All (λ (q : Region). q .name ≡ name → ⊥) (w .regions)
   unfolding named
@@ -105,7 +104,7 @@ module _ (w : World) (s : Sound w) (id tag : ℕ) (name : List ℕ) (c : Creates
   new-apart : Disjoint (footprints (w .limits) (w .regions ++ (r ∷ [])))
   unfolding footprints
   new-apart =
-      let g = end-exact (range a (block w)) (omega (arith, f .upto, s .file)) in
+      let g = end-exact (range a (block w)) (omega (arith, f .upto, s .container .file)) in
       let z : a + 0 ≡ a = omega arith in
       rw (footprints-append (w .limits) (w .regions) (r ∷ []))
       (disjoint-append (heldRanges w) (footprint (w .limits) r) (s .apart) ((apart (range a (block w)) (range (a + block w) (block w)) (omega arith), tt), (tt, tt))
@@ -119,10 +118,7 @@ module _ (w : World) (s : Sound w) (id tag : ℕ) (name : List ℕ) (c : Creates
       let t : TagRow = rowOf tag (w .rows) in
       let e = row-tag tag (w .rows) in
       record {
-        low = s .low;
-        high = s .high;
-        table = s .table;
-        file = s .file;
+        container = s .container;
         few = let n = length-append (w .regions) (r ∷ []) in omega (arith, n, c .region);
         regular = all-append (Regular (w .limits)) (w .regions) (r ∷ []) (s .regular) (created-regular, tt);
         numbers = distinct-behind (λ (q : Region). q .number) r (w .regions) (s .numbers) new-number;

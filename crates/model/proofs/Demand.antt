@@ -25,13 +25,13 @@ use Rattle.model.proofs.Regions.{known-true, split, heldFront, heldBehi
 use Rattle.model.proofs.Sound.{Sound}
 use Rattle.model.proofs.Spans.{by-search, block-some, none-found, least-found, none-free}
 use Rattle.model.proofs.Stays.{byte-stays}
-use Rattle.model.proofs.Steps.{after-sound}
+use Rattle.model.proofs.Steps.{after-sound, room-left}
 use Rattle.numbers.proofs.Answers.{answer-number, answer-value, refused-is}
 use Rattle.numbers.proofs.Cases.{by-eq}
 use Rattle.numbers.proofs.Disjoint.{all-shared, disjoint-left, disjoint-right, disjoint-between}
 use Rattle.numbers.proofs.Keyed.{has-later, keyed-here, keyed-later}
 use Rattle.numbers.proofs.Lists.{any-left, any-right}
-use Rattle.numbers.proofs.Refusals.{first-go, first-stop, first-low, refuse-low, none-first}
+use Rattle.numbers.proofs.Refusals.{first-go, first-low, refuse-low}
 use Rattle.runs.proofs.Bytes.{byte-in, byte-own}
 
 -- ---- different regions have different bytes
@@ -111,12 +111,8 @@ module _ (w : World) (s : Sound w) where
     unfolding noRoom first refuse
     no-room z e = number ∙ first-go tests _ z ∙ rw e
 
-    room-left : (a : ℕ) → leastFree w n ≡ some a → refusalTo w c ≡ first tests
-    unfolding noRoom refuse
-    room-left a e =
-        let q : refuse 22 (noRoom w n) ≡ 0 = rw e in
-        number
-        ∙ by-eq (first tests) 0 (λ z. first-go tests _ z ∙ none-first _ (q, tt) ∙ sym z) (λ d. first-stop tests _ d)
+    with-place : (a : ℕ) → leastFree w n ≡ some a → refusalTo w c ≡ first tests
+    with-place a e = number ∙ room-left w tests n a e
 
     room : Room w tests n c
     room =
@@ -124,11 +120,11 @@ module _ (w : World) (s : Sound w) where
           full = λ z h. let e = no-room z (none-found w n h) in rw e (answer-number 22 _ (λ q. omega arith));
           only-full = λ e.
               by-search (leastFree w n)
-              (λ a q. let r = refused-is _ _ 22 e .0 in absurd (omega (arith, r, room-left a q, low)))
+              (λ a q. let r = refused-is _ _ 22 e .0 in absurd (omega (arith, r, with-place a q, low)))
               (λ q. none-free w n pos q);
           placed = λ z p f.
               by-search (leastFree w n)
-              (λ a q. (a, least-found w n a q, answer-value _ _ (room-left a q ∙ z) ∙ ap accepted (byte ∙ q)))
+              (λ a q. (a, least-found w n a q, answer-value _ _ (with-place a q ∙ z) ∙ ap accepted (byte ∙ q)))
               (λ q. absurd (none-free w n pos q p f));
         }
 

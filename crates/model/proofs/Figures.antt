@@ -1,6 +1,5 @@
 -- Held and free bytes, and the totals of tags.
 use Prim.Native.Nat.{ℕ, _+_, _-_, _*_, _≤_}
-use mathlib.Core.Bool.{cond}
 use mathlib.Core.List.{List, [], _∷_, map}
 use mathlib.Core.Path.{_≡_, refl}
 use native.Mathlib.Omega.{arith}
@@ -14,7 +13,7 @@ use Rattle.numbers.specs.Keyed.{HasKey}
 use Rattle.numbers.specs.Lists.{All}
 use Rattle.numbers.specs.Range.{Within, total}
 use Rattle.numbers.specs.Sums.{top, sum}
-use Rattle.model.proofs.Regions.{all-footprints, footprints-total, sum-tag, sum-without}
+use Rattle.model.proofs.Regions.{all-footprints, footprints-total, ifTag, sum-tag, sum-without}
 use Rattle.model.proofs.Sound.{Regular, Sound}
 use Rattle.numbers.proofs.Cases.{cases}
 use Rattle.numbers.proofs.Lists.{all-imp}
@@ -33,7 +32,7 @@ sum-le f g (r ∷ rs) a = let i = sum-le f g rs (a .1) in let l = a .0 in omega 
 
 tag-le : (f g : Region → ℕ) (tag : ℕ) (rs : List Region) → All (λ (r : Region). f r ≤ g r) rs → sum (map f (ofTag tag rs)) ≤ sum (map g rs)
 tag-le f g tag rs a =
-    let h : Region → ℕ = λ r. cond (eqb (r .tag) tag) (f r) 0 in
+    let h : Region → ℕ = λ r. ifTag (r .tag) tag (f r) in
     let e = sum-tag f tag rs in
     let i = sum-le h g rs
     (all-imp (λ (r : Region). f r ≤ g r) (λ (r : Region). h r ≤ g r) (λ r l. cases (eqb (r .tag) tag) (λ t. simp t l) (λ t. simp t (omega arith))) rs a) in
@@ -62,11 +61,11 @@ module _ (w : World) (s : Sound w) where
   pub held-and-free : held w + free w ≡ w .limits .«file_len» - w .limits .«table_end»
   held-and-free =
       let e = footprints-total (w .limits) (w .regions) in
-      let h = bytes.held-and-free (w .limits .«table_end») (w .limits .«file_len») (omega (arith, s .file)) (heldRanges w) held-within (s .apart) in
+      let h = bytes.held-and-free (w .limits .«table_end») (w .limits .«file_len») (omega (arith, s .container .file)) (heldRanges w) held-within (s .apart) in
       omega arith
 
   pub held-most : held w ≤ top
-  held-most = let e = held-and-free in omega (arith, e, s .file)
+  held-most = let e = held-and-free in omega (arith, e, s .container .file)
 
   -- no total of a tag passes 2^64 - 1
   pub physical-most : (tag : ℕ) → physical w tag ≤ held w

@@ -8,13 +8,13 @@ use Rattle.align.specs.Align.{upTo}
 use Rattle.footprint.specs.Footprint.{kindCode}
 use Rattle.freemap.specs.Fit.{firstFit, allows, skipped, placeIn}
 use Rattle.freemap.specs.Inner.{swept}
-use Rattle.model.specs.Calls.{Call, create, grow, publish, locate, known, named, tagFull, capFails, grown, publishedTo, withRegions, createdAt, step, refusalTo, byteFor, answerTo, accept, next, refusalShown, atShown}
+use Rattle.model.specs.Calls.{Call, create, grow, publish, locate, known, named, tagFull, capFails, createdAt, step, refusalTo, byteFor, answerTo, accept, next, refusalShown, atShown, grownAt, publishedAt}
 use Rattle.model.specs.Listing.{line, Line, linesOf, opening, mainA, Listing}
-use Rattle.model.specs.Open.{listsFail, logsFailIn, lengthFails, eachRecord, shared, marked, openRefusal, opened, highest, rowsFor}
+use Rattle.model.specs.Open.{listsFailIn, logsFailIn, lengthFails, eachRecord, shared, marked, openRefusal, opened, highest, rowsFor}
 use Rattle.model.specs.Region.{footprints, onRegion}
 use Rattle.model.specs.Span.{leastFree}
 use Rattle.model.specs.World.{World, held, free, hasRow}
-use Rattle.numbers.specs.Keyed.{keyed, putKeyed}
+use Rattle.numbers.specs.Keyed.{hasKey, keyed, putKeyed}
 use Rattle.numbers.specs.Lists.{any, keep}
 use Rattle.numbers.specs.Order.{precedes}
 use Rattle.numbers.specs.Pairs.{pairs}
@@ -51,13 +51,13 @@ abbrev w1 : World
 w1 = createdAt w0 1 7 mainA 8192
 
 abbrev w2 : World
-w2 = withRegions w1 (onRegion 1 (grown 16384 65536) (w1 .regions))
+w2 = grownAt w1 1 16384
 
 abbrev w3 : World
-w3 = withRegions w2 (onRegion 1 (publishedTo 65536) (w2 .regions))
+w3 = publishedAt w2 1 65536
 
 opens : openRefusal opening ≡ 0
-unfolding openRefusal listsFail logsFailIn lengthFails shared marked marksFrom first refuse any pairs sum eachRecord
+unfolding openRefusal listsFailIn logsFailIn lengthFails shared marked marksFrom first refuse any pairs sum eachRecord
 opens = refl
 
 s0 : Sound w0
@@ -68,7 +68,7 @@ unfolding eachRecord footprints sorted insert precedes swept firstFit allows ski
 place0 = least-swept w0 s0 8192 (omega arith)
 
 step1 : (answerTo w0 (create 1 7 mainA) ≡ accepted (some 8192)) × (next w0 (create 1 7 mainA) ≡ w1)
-unfolding first refuse known named tagFull capFails hasRow rowsFor eachRecord any highest fits capAllows keyed
+unfolding first refuse known hasKey named tagFull capFails hasRow rowsFor eachRecord any highest fits capAllows keyed
 step1 = created-next w0 1 7 mainA 8192 refl place0
 
 s1 : Sound w1
@@ -79,32 +79,32 @@ unfolding eachRecord footprints sorted insert precedes swept firstFit allows ski
 place1 = least-swept w1 s1 65536 (omega arith)
 
 step2 : (answerTo w1 (grow 1) ≡ accepted (some 16384)) × (next w1 (grow 1) ≡ w2)
-unfolding first refuse known capFails rowsFor eachRecord any fits capAllows keyed putKeyed kindCode step keep sum
+unfolding first refuse known hasKey capFails rowsFor eachRecord any fits capAllows keyed putKeyed kindCode step keep sum
 step2 = grown-next w1 1 16384 refl place1
 
 s2 : Sound w2
 s2 = subst Sound (step2 .1) (next-sound w1 s1 (grow 1))
 
 step3 : (answerTo w2 (publish 1 65536) ≡ accepted none) × (next w2 (publish 1 65536) ≡ w3)
-unfolding answer refusalTo byteFor next accept first refuse known eachRecord any onRegion keyed sum
+unfolding answer refusalTo byteFor next accept first refuse known hasKey eachRecord any onRegion keyed step sum
 step3 = (refl, refl)
 
 s3 : Sound w3
 s3 = subst Sound (step3 .1) (next-sound w2 s2 (publish 1 65536))
 
 step4 : (answerTo w3 (locate 1 65535 1) ≡ accepted (some 81919)) × (next w3 (locate 1 65535 1) ≡ w3)
-unfolding answer refusalTo byteFor next accept first refuse known eachRecord any onRegion keyed notEmpty joinedTo joined runsFrom lastAt
+unfolding answer refusalTo byteFor next accept first refuse known hasKey eachRecord any onRegion keyed step notEmpty joinedTo joined runsFrom lastAt
 step4 = (refl, refl)
 
 step5 : (answerTo w3 (locate 1 65535 2) ≡ refused 23) × (next w3 (locate 1 65535 2) ≡ w3)
-unfolding answer refusalTo byteFor next accept first refuse known eachRecord any onRegion keyed notEmpty joinedTo joined runsFrom lastAt
+unfolding answer refusalTo byteFor next accept first refuse known hasKey eachRecord any onRegion keyed step notEmpty joinedTo joined runsFrom lastAt
 step5 = (refl, refl)
 
 abbrev located : List Call
 located = locate 1 65535 1 ∷ locate 1 65535 2 ∷ []
 
 pub listing : Listing
-unfolding sum eachRecord onRegion linesOf
+unfolding sum eachRecord onRegion keyed step linesOf
 listing =
     record {
       open-refusal = opens;

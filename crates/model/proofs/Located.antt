@@ -52,7 +52,7 @@ module _ (w : World) (s : Sound w) (id : ℕ) (k : HasKey idOf id (w .regions)) 
   region-ends =
       let q = region-regular in
       all-imp (Within (regionIn w id .span-start) (regionIn w id .span-end)) (λ (x : Range). x .offset + x .len ≤ top)
-      (λ x i. omega (arith, i .upto, q .file, s .file)) (regionIn w id .extents) (q .inside .1 .1)
+      (λ x i. omega (arith, i .upto, q .file, s .container .file)) (regionIn w id .extents) (q .inside .1 .1)
 
 -- ---- the answer
 

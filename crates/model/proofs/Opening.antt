@@ -11,7 +11,7 @@ use lib.Seq.{drop-drop}
 use borrow.Author.Tests.{ltb-false, le-ltb, eqb-true, eq-eqb, ne-eqb, eqb-false, not-false}
 use Rattle.footprint.specs.Footprint.{maxExtents, committed, logsFail}
 use Rattle.footprint.specs.declared.Limits.{Limits}
-use Rattle.model.specs.Open.{Record, Opening, eachRecord, regionFrom, regionsFrom, listsFail, logsFailIn, lengthFails, recordRefusal, shared, usable, marked, openRefusal, highest, rowsFor, opened}
+use Rattle.model.specs.Open.{Record, Opening, eachRecord, regionFrom, regionsFrom, listsFailIn, logsFailIn, lengthFails, recordRefusal, shared, usable, marked, openRefusal, highest, rowsFor, opened}
 use Rattle.model.specs.Region.{Region, footprint, footprints}
 use Rattle.model.specs.World.{tagOf, rowOf, withTag}
 use Rattle.numbers.specs.Keyed.{HasKey, InKeyOrder}
@@ -97,8 +97,8 @@ pub record ListsIn (o : Opening) : Type 0 where
   pub scratch : 16 * sum (map (λ (r : Record). countOf r + 2) (o .records)) ≤ o .scratch
   pub places : 64 ≤ o .places
 
-pub lists-pass : (o : Opening) → listsFail o ≡ false → ListsIn o
-unfolding listsFail
+pub lists-pass : (o : Opening) → listsFailIn o ≡ false → ListsIn o
+unfolding listsFailIn
 lists-pass o e =
     let p = or-false _ _ e in
     let s = or-false _ _ (p .0) in
@@ -118,8 +118,8 @@ lists-pass o e =
       places = ltb-false _ _ (p .1);
     }
 
-pub lists-fine : (o : Opening) → ListsIn o → listsFail o ≡ false
-unfolding listsFail
+pub lists-fine : (o : Opening) → ListsIn o → listsFailIn o ≡ false
+unfolding listsFailIn
 lists-fine o l =
     simp (
       le-ltb _ _ (l .few),
@@ -410,10 +410,7 @@ module _ (o : Opening) where
       let k = rows-few tags in
       let m = length-map rs (λ (r : Record). r .tag) in
       record {
-        low = f .logs .low;
-        high = f .logs .high;
-        table = f .table;
-        file = f .file;
+        container = record { low = f .logs .low; high = f .logs .high; table = f .table; file = f .file };
         few = omega (arith, l .few);
         regular =
             each-both (recordRefusal (o .limits)) regionFrom Short (λ (n : ℕ). n ≡ 0) (Regular (o .limits))

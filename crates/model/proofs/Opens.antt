@@ -1,10 +1,10 @@
 -- The examples of specs/Opens by computation.
 use mathlib.Core.Path.{refl}
-use Rattle.footprint.specs.Footprint.{maxExtents, kindCode, logsFail, spanFails, blockFails, near, entryFails, countFails, outside, overlaps, refusalOf, listsFail as listsOfOne}
+use Rattle.footprint.specs.Footprint.{maxExtents, kindCode, logsFail, spanFails, blockFails, near, entryFails, countFails, outside, overlaps, refusalOf, listsFail}
 use Rattle.model.specs.Calls.{known, refusalTo, byteFor}
-use Rattle.model.specs.Open.{eachRecord, listsFail, logsFailIn, lengthFails, shared, marked, openRefusal, highest, rowsFor}
+use Rattle.model.specs.Open.{eachRecord, listsFailIn, logsFailIn, lengthFails, shared, marked, openRefusal, highest, rowsFor}
 use Rattle.model.specs.Opens.{Accepting, Refusing, InOrder}
-use Rattle.numbers.specs.Keyed.{keyed, putKeyed}
+use Rattle.numbers.specs.Keyed.{hasKey, keyed, putKeyed}
 use Rattle.numbers.specs.Lists.{any, keep, same}
 use Rattle.numbers.specs.Pairs.{pairs}
 use Rattle.numbers.specs.Range.{endOf, meets}
@@ -16,7 +16,7 @@ use Rattle.settle.specs.Regions.{piecesFrom}
 use Rattle.settle.specs.Settle.{anyOther, overlapped, superseded, renamed, marksFrom, highest as highestOf}
 
 pub opens : Accepting × Refusing × InOrder
-unfolding openRefusal listsFail logsFailIn lengthFails shared marked eachRecord refusalOf listsOfOne maxExtents kindCode logsFail spanFails blockFails near entryFails countFails outside overlaps refuse first eachExtent answer any keep same sum pairs endOf meets piecesFrom marksFrom overlapped superseded renamed anyOther highestOf highest rowsFor keyed putKeyed refusalTo byteFor known notEmpty joins joinedTo joined runsFrom lastAt
+unfolding openRefusal listsFailIn logsFailIn lengthFails shared marked eachRecord refusalOf listsFail maxExtents kindCode logsFail spanFails blockFails near entryFails countFails outside overlaps refuse first eachExtent answer any keep same sum pairs endOf meets piecesFrom marksFrom overlapped superseded renamed anyOther highestOf highest rowsFor keyed putKeyed refusalTo byteFor known hasKey notEmpty joins joinedTo joined runsFrom lastAt
 opens = (
   record {
     number = refl;

@@ -7,9 +7,9 @@ use mathlib.Core.Path.{_≡_, ap, sym, _∙_}
 use native.Mathlib.Omega.{arith}
 use lib.ListN.{length, getD, take, drop, length-drop}
 use lib.Seq.{length-take-le}
-use Rattle.footprint.specs.Footprint.{maxExtents}
+use Rattle.footprint.specs.Footprint.{maxExtents, listsFail}
 use Rattle.footprint.specs.declared.Limits.{Limits}
-use Rattle.model.specs.Open.{Record, Opening, eachRecord, regionsFrom, listsFail, logsFailIn, lengthFails, recordRefusal, shared, marked, openRefusal}
+use Rattle.model.specs.Open.{Record, Opening, eachRecord, regionsFrom, listsFailIn, logsFailIn, lengthFails, recordRefusal, shared, marked, openRefusal}
 use Rattle.numbers.specs.Lists.{All}
 use Rattle.numbers.specs.Pairs.{pairs}
 use Rattle.numbers.specs.Refusals.{first, refuse}
@@ -22,13 +22,12 @@ use Rattle.numbers.proofs.Cases.{cases, by-eq, never}
 use Rattle.numbers.proofs.Lists.{all-at, all-imp}
 use Rattle.numbers.proofs.Pairs.{length-pairs, even-list, pairs-take, pairs-drop}
 use Rattle.numbers.proofs.Refusals.{NoneBelow, first-one, first-stop, first-go, none-first, first-high, pass-none, refuse-high, FirstAt, first-at, at-first, first-all}
-use Rattle.footprint.specs.Footprint as checking
 
 -- ---- a record's own number is between 4 and 13 once 1 and 2 passed over all
 
 -- 1 of one record
 abbrev pub ownFails : Limits → Record → List ℕ → Bool
-ownFails lim r xs = checking.listsFail lim (r .entry) (r .header) xs (2 * (countOf r + 2))
+ownFails lim r xs = listsFail lim (r .entry) (r .header) xs (2 * (countOf r + 2))
 
 module _ (lim : Limits) where
   own-right : (r : Record) (l : List ℕ) → listedBy r ≤ length (pairs l) → countOf r ≤ 60 → listedBy r ≤ maxExtents (lim .«log2_block»)
@@ -61,7 +60,7 @@ own-lists o l = own-all (o .limits) (o .records) (o .extents) (l .listed) (l .co
 abbrev pub OfRecord : ℕ → Type 0
 OfRecord n = NoneBelow 4 n × (n ≤ 13)
 
-pub checks-between : (o : Opening) → listsFail o ≡ false → logsFailIn o ≡ false → All OfRecord (checks o)
+pub checks-between : (o : Opening) → listsFailIn o ≡ false → logsFailIn o ≡ false → All OfRecord (checks o)
 checks-between o f g =
     each-both (ownFails (o .limits)) (recordRefusal (o .limits)) (λ (r : Record). logFails o r ≡ false) (λ (b : Bool). b ≡ false) OfRecord
     (λ r xs a b.
@@ -75,7 +74,7 @@ checks-between o f g =
 
 -- 1 to 3 passed
 pub record Past (o : Opening) : Type 0 where
-  pub lists : listsFail o ≡ false
+  pub lists : listsFailIn o ≡ false
   pub logs : logsFailIn o ≡ false
   pub size : lengthFails (o .limits) ≡ false
 
@@ -83,7 +82,7 @@ not-below : {P : Type 0} (m n : ℕ) → NoneBelow m n → 0 < n → n < m → P
 not-below m n b l u = ⊎-elim (λ z. absurd (omega arith)) (λ h. absurd (omega arith)) b
 
 module _ (o : Opening) where
-  past : listsFail o ≡ false → logsFailIn o ≡ false → lengthFails (o .limits) ≡ false → Past o
+  past : listsFailIn o ≡ false → logsFailIn o ≡ false → lengthFails (o .limits) ≡ false → Past o
   past f g h = record { lists = f; logs = g; size = h }
 
   abbrev pub sharedIn : Bool
@@ -94,22 +93,22 @@ module _ (o : Opening) where
 
   -- ---- the number where a test fails, whatever fails behind it
 
-  pub open-1 : listsFail o ≡ true → openRefusal o ≡ 1
+  pub open-1 : listsFailIn o ≡ true → openRefusal o ≡ 1
   unfolding openRefusal first refuse
   open-1 t = simp t
 
-  pub open-2 : listsFail o ≡ false → logsFailIn o ≡ true → openRefusal o ≡ 2
+  pub open-2 : listsFailIn o ≡ false → logsFailIn o ≡ true → openRefusal o ≡ 2
   unfolding openRefusal first refuse
   open-2 f t = simp (f, t)
 
-  pub open-3 : listsFail o ≡ false → logsFailIn o ≡ false → lengthFails (o .limits) ≡ true → openRefusal o ≡ 3
+  pub open-3 : listsFailIn o ≡ false → logsFailIn o ≡ false → lengthFails (o .limits) ≡ true → openRefusal o ≡ 3
   unfolding openRefusal first refuse
   open-3 f g t = simp (f, g, t)
 
   later : Past o → openRefusal o ≡ first (first (checks o) ∷ refuse 14 sharedIn ∷ refuse 15 markedIn ∷ [])
   unfolding openRefusal
   later p =
-      first-go (refuse 1 (listsFail o) ∷ refuse 2 (logsFailIn o) ∷ refuse 3 (lengthFails (o .limits)) ∷ []) _
+      first-go (refuse 1 (listsFailIn o) ∷ refuse 2 (logsFailIn o) ∷ refuse 3 (lengthFails (o .limits)) ∷ []) _
       (none-first _ (pass-none 1 _ (p .lists), (pass-none 2 _ (p .logs), (pass-none 3 _ (p .size), tt))))
 
   -- "the first record that fails gives its lowest number"
@@ -154,16 +153,16 @@ module _ (o : Opening) where
         (refuse-high 4 14 _ (omega arith), (refuse-high 4 15 _ (omega arith), tt)),
       ))
 
-  high-3 : listsFail o ≡ false → logsFailIn o ≡ false → NoneBelow 3 (openRefusal o)
+  high-3 : listsFailIn o ≡ false → logsFailIn o ≡ false → NoneBelow 3 (openRefusal o)
   high-3 f g =
       cases (lengthFails (o .limits)) (λ t. inr (omega (arith, open-3 f g t)))
       (λ h. ⊎-elim (λ z. inl z) (λ l. inr (omega arith)) (high-4 (past f g h)))
 
-  high-2 : listsFail o ≡ false → NoneBelow 2 (openRefusal o)
+  high-2 : listsFailIn o ≡ false → NoneBelow 2 (openRefusal o)
   high-2 f = cases (logsFailIn o) (λ t. inr (omega (arith, open-2 f t))) (λ g. ⊎-elim (λ z. inl z) (λ l. inr (omega arith)) (high-3 f g))
 
-  passed-1 : 1 < openRefusal o → listsFail o ≡ false
-  passed-1 h = never (listsFail o) (λ t. omega (arith, open-1 t))
+  passed-1 : 1 < openRefusal o → listsFailIn o ≡ false
+  passed-1 h = never (listsFailIn o) (λ t. omega (arith, open-1 t))
 
   passed-2 : 2 < openRefusal o → logsFailIn o ≡ false
   passed-2 h = let f = passed-1 (omega arith) in never (logsFailIn o) (λ t. omega (arith, open-2 f t))
@@ -179,15 +178,15 @@ module _ (o : Opening) where
       by-eq (first (checks o)) 0 (first-all (checks o))
       (λ d. let q = at-first (checks o) d in let b = record-between (passed-3 (omega arith)) (q .0) (q .1) in absurd (omega arith))
 
-  pub is-1 : openRefusal o ≡ 1 → listsFail o ≡ true
-  is-1 z = cases (listsFail o) (λ t. t) (λ f. not-below 2 _ (high-2 f) (omega arith) (omega arith))
+  pub is-1 : openRefusal o ≡ 1 → listsFailIn o ≡ true
+  is-1 z = cases (listsFailIn o) (λ t. t) (λ f. not-below 2 _ (high-2 f) (omega arith) (omega arith))
 
-  pub is-2 : openRefusal o ≡ 2 → (listsFail o ≡ false) × (logsFailIn o ≡ true)
+  pub is-2 : openRefusal o ≡ 2 → (listsFailIn o ≡ false) × (logsFailIn o ≡ true)
   is-2 z =
       let f = passed-1 (omega arith) in
       (f, cases (logsFailIn o) (λ t. t) (λ g. not-below 3 _ (high-3 f g) (omega arith) (omega arith)))
 
-  pub is-3 : openRefusal o ≡ 3 → (listsFail o ≡ false) × (logsFailIn o ≡ false) × (lengthFails (o .limits) ≡ true)
+  pub is-3 : openRefusal o ≡ 3 → (listsFailIn o ≡ false) × (logsFailIn o ≡ false) × (lengthFails (o .limits) ≡ true)
   is-3 z =
       let f = passed-1 (omega arith) in
       let g = passed-2 (omega arith) in

@@ -7,7 +7,7 @@ use mathlib.Core.Path.{_≡_, refl, ap, sym, subst, _∙_}
 use native.Mathlib.Omega.{arith}
 use lib.Dec.{eqb}
 use lib.ListN.{length, length-map}
-use borrow.Author.Tests.{eqb-true, eq-eqb, ne-eqb}
+use borrow.Author.Tests.{eq-eqb, ne-eqb}
 use Rattle.footprint.specs.declared.Limits.{Limits}
 use Rattle.model.specs.Calls.{known, grown}
 use Rattle.model.specs.Region.{Region, footprint, footprintLen, footprints, idOf, regionOf, onRegion, without}
@@ -17,23 +17,19 @@ use Rattle.numbers.specs.Lists.{All, keep, Distinct}
 use Rattle.numbers.specs.Range.{Range, range, total}
 use Rattle.numbers.specs.Sums.{sum}
 use Rattle.numbers.proofs.Cases.{by-eq}
-use Rattle.numbers.proofs.Keyed.{has-later}
-use Rattle.numbers.proofs.Lists.{all-append, all-left, all-right, all-map, map-all, any-imp, any-true, of-any}
+use Rattle.numbers.proofs.Keyed.{key-true, true-key, has-later}
+use Rattle.numbers.proofs.Lists.{all-append, all-left, all-right, all-map, map-all}
 use Rattle.numbers.proofs.Sums.{total-append}
 
 -- ---- known regions
 
 pub known-true : (w : World) (id : ℕ) → known w id ≡ true → HasKey idOf id (w .regions)
 unfolding known
-known-true w id e =
-    any-imp (λ (r : Region). eqb (r .number) id ≡ true) (λ (r : Region). r .number ≡ id) (λ r t. eqb-true _ _ t) (w .regions)
-    (any-true (λ (r : Region). eqb (r .number) id) (w .regions) e)
+known-true w id e = key-true idOf id (w .regions) e
 
 pub true-known : (w : World) (id : ℕ) → HasKey idOf id (w .regions) → known w id ≡ true
 unfolding known
-true-known w id h =
-    of-any (λ (r : Region). eqb (r .number) id) (w .regions)
-    (any-imp (λ (r : Region). r .number ≡ id) (λ (r : Region). eqb (r .number) id ≡ true) (λ r t. eq-eqb _ _ t) (w .regions) h)
+true-known w id h = true-key idOf id (w .regions) h
 
 -- ---- where it stands
 
@@ -129,12 +125,16 @@ module _ (h : Region → ℕ) (id : ℕ) where
       by-eq (r .number) id (λ e. simp (eq-eqb _ _ e) (omega arith))
       (λ d. let i = sum-without rs (has-later idOf id r rs d k) in simp (ne-eqb _ _ d) (omega arith))
 
+-- n bytes count for the tag t where they are of that tag.
+abbrev pub ifTag : (tag t n : ℕ) → ℕ
+ifTag tag t n = cond (eqb tag t) n 0
+
 -- a tag's sum counts the other regions as nothing
-pub sum-tag : (h : Region → ℕ) (tag : ℕ) (rs : List Region) → sum (map h (ofTag tag rs)) ≡ sum (map (λ (r : Region). cond (eqb (r .tag) tag) (h r) 0) rs)
+pub sum-tag : (h : Region → ℕ) (t : ℕ) (rs : List Region) → sum (map h (ofTag t rs)) ≡ sum (map (λ (r : Region). ifTag (r .tag) t (h r)) rs)
 unfolding keep sum
-sum-tag h tag [] = refl
-sum-tag h tag (r ∷ rs) =
-    let i = sum-tag h tag rs in by-eq (r .tag) tag (λ e. simp (eq-eqb _ _ e) (omega arith)) (λ d. simp (ne-eqb _ _ d) (omega arith))
+sum-tag h t [] = refl
+sum-tag h t (r ∷ rs) =
+    let i = sum-tag h t rs in by-eq (r .tag) t (λ e. simp (eq-eqb _ _ e) (omega arith)) (λ d. simp (ne-eqb _ _ d) (omega arith))
 
 -- ---- footprints
 

@@ -4,9 +4,9 @@ use mathlib.Core.Bool.{true, false}
 use mathlib.Core.List.{List}
 use mathlib.Core.Path.{_≡_, refl, sym, subst, _∙_}
 use native.Mathlib.Omega.{arith}
-use lib.Dec.{eqb, leb}
+use lib.Dec.{leb}
 use lib.ListN.{length}
-use borrow.Author.Tests.{eqb-true, eq-eqb, leb-false}
+use borrow.Author.Tests.{leb-false}
 use Rattle.model.specs.Calls.{tagFull}
 use Rattle.model.specs.Region.{Region}
 use Rattle.model.specs.World.{World, TagRow, tagRow, tagOf, hasRow, rowOf, putRow, withTag}
@@ -14,23 +14,19 @@ use Rattle.numbers.specs.Keyed.{HasKey, InKeyOrder}
 use Rattle.numbers.specs.Lists.{All}
 use Rattle.model.proofs.Sound.{Sound}
 use Rattle.numbers.proofs.Cases.{cases}
-use Rattle.numbers.proofs.Keyed.{keyed-any-key, put-order, own-has, other-has, put-least, length-kept}
-use Rattle.numbers.proofs.Lists.{all-imp, any-imp, any-true, of-any}
+use Rattle.numbers.proofs.Keyed.{key-true, true-key, keyed-any-key, put-order, own-has, other-has, put-least, length-kept}
+use Rattle.numbers.proofs.Lists.{all-imp}
 use Rattle.tagspace.specs.declared.Cap.the-variants as cap-is
 
 -- the test says whether a tag has a row
 module _ (w : World) (tag : ℕ) where
   pub row-true : hasRow w tag ≡ true → HasKey tagOf tag (w .rows)
   unfolding hasRow
-  row-true e =
-      any-imp (λ (t : TagRow). eqb (t .tag) tag ≡ true) (λ (t : TagRow). t .tag ≡ tag) (λ t. eqb-true _ _) (w .rows)
-      (any-true (λ (t : TagRow). eqb (t .tag) tag) (w .rows) e)
+  row-true e = key-true tagOf tag (w .rows) e
 
   pub true-row : HasKey tagOf tag (w .rows) → hasRow w tag ≡ true
   unfolding hasRow
-  true-row h =
-      of-any (λ (t : TagRow). eqb (t .tag) tag) (w .rows)
-      (any-imp (λ (t : TagRow). t .tag ≡ tag) (λ (t : TagRow). eqb (t .tag) tag ≡ true) (λ t. eq-eqb _ _) (w .rows) h)
+  true-row h = true-key tagOf tag (w .rows) h
 
 -- the rows with that of a tag, where it stands or new
 module _ (t : ℕ) (rows : List TagRow) where

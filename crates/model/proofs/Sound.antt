@@ -27,11 +27,15 @@ pub record Regular (lim : Limits) (r : Region) : Type 0 where
   pub size : r .published ≤ capacity r
   pub multiple : r .published % 2 ^ (r .log2) ≡ 0
 
+-- Of the container limits: they never change.
+pub record Container (lim : Limits) : Type 0 where
+  pub low : 12 ≤ lim .«log2_block»
+  pub high : lim .«log2_block» ≤ 16
+  pub table : lim .«table_end» ≤ lim .«file_len»
+  pub file : lim .«file_len» ≤ 2 ^ 63 - 1
+
 pub record Sound (w : World) : Type 0 where
-  pub low : 12 ≤ w .limits .«log2_block»
-  pub high : w .limits .«log2_block» ≤ 16
-  pub table : w .limits .«table_end» ≤ w .limits .«file_len»
-  pub file : w .limits .«file_len» ≤ 2 ^ 63 - 1
+  pub container : Container (w .limits)
   -- "Up to 64 regions"
   pub few : length (w .regions) ≤ 64
   pub regular : All (Regular (w .limits)) (w .regions)

@@ -131,11 +131,11 @@ pub block-some : (w : World) → 0 < block w
 block-some w = pow-pos (w .limits .«log2_block»)
 
 pub block-most : (w : World) → Sound w → block w ≤ 65536
-block-most w s = pow-mono (s .high)
+block-most w s = pow-mono (s .container .high)
 
 module _ (w : World) (s : Sound w) where
   small : w .limits .«file_len» ≤ top
-  small = omega (arith, s .file)
+  small = omega (arith, s .container .file)
 
   -- a free span by ranges that it does not meet is one by bytes, and the other way round
   by-bytes : (n p : ℕ) → FreeSpan w n p → free.FreeSpan (w .limits .«table_end») (w .limits .«file_len») (heldRanges w) n (block w) 0 p
@@ -160,7 +160,7 @@ module _ (w : World) (s : Sound w) where
   pub least-is-fit : (n : ℕ) → 0 < n → leastFree w n ≡ firstFit n (block w) 0 (gapsOf (w .limits .«table_end») (w .limits .«file_len») (heldRanges w))
   least-is-fit n pos =
       let b = block-most w s in
-      let l = fit-lowest (w .limits .«table_end») (w .limits .«file_len») (heldRanges w) n (block w) 0 pos (block-some w) (omega (arith, s .file)) in
+      let l = fit-lowest (w .limits .«table_end») (w .limits .«file_len») (heldRanges w) n (block w) 0 pos (block-some w) (omega (arith, s .container .file)) in
       by-search (leastFree w n)
       (λ a e.
       let m = least-found w n a e in

@@ -18,7 +18,7 @@ use Rattle.model.proofs.Sound.{Sound}
 use Rattle.model.proofs.Spans.{least-found}
 use Rattle.numbers.proofs.Answers.{answer-value}
 use Rattle.numbers.proofs.Cases.{by-eq, clash}
-use Rattle.numbers.proofs.Refusals.{first-none, first-parts, first-go, none-first, pass-none, refuse-none}
+use Rattle.numbers.proofs.Refusals.{first-none, first-parts, first-go, first-stop, none-first, pass-none, refuse-none}
 
 -- ---- accepted and refused
 
@@ -92,16 +92,18 @@ along-sound w s (c ∷ cs) = (s, along-sound (next w c) (next-sound w s c) cs)
 
 -- ---- create and grow where a span is free
 
-module _ (w : World) (tests : List ℕ) (n a : ℕ) (z : first tests ≡ 0) (e : leastFree w n ≡ some a) where
-  room-passes : first (tests ++ (refuse 22 (noRoom w n) ∷ [])) ≡ 0
-  unfolding noRoom
-  room-passes = first-go tests (refuse 22 (noRoom w n) ∷ []) z ∙ none-first _ (pass-none 22 (noRoom w n) (rw e), tt)
+-- the tests before that of room decide
+pub room-left : (w : World) (tests : List ℕ) (n a : ℕ) → leastFree w n ≡ some a → first (tests ++ (refuse 22 (noRoom w n) ∷ [])) ≡ first tests
+unfolding noRoom
+room-left w tests n a e =
+    let q = none-first (refuse 22 (noRoom w n) ∷ []) (pass-none 22 (noRoom w n) (rw e), tt) in
+    by-eq (first tests) 0 (λ z. first-go tests _ z ∙ q ∙ sym z) (first-stop tests _)
 
 pub created-next : (w : World) (id tag : ℕ) (name : List ℕ) (a : ℕ) → first (createTests w id tag name) ≡ 0 → leastFree w (headerLen w) ≡ some a
     → (answerTo w (create id tag name) ≡ accepted (some a)) × (next w (create id tag name) ≡ createdAt w id tag name a)
 unfolding refusalTo byteFor accept
 created-next w id tag name a z e =
-    let r = room-passes w (createTests w id tag name) (headerLen w) a z e in
+    let r = room-left w (createTests w id tag name) (headerLen w) a e ∙ z in
     (answer-value _ _ r ∙ ap accepted e, next-accepted w (create id tag name) r ∙ ap (λ (o : Option ℕ). createdAt w id tag name (orZero o)) e)
 
 pub grown-next : (w : World) (id a : ℕ) → first (growTests w id) ≡ 0 → leastFree w (stepLen w (regionIn w id)) ≡ some a
@@ -109,5 +111,5 @@ pub grown-next : (w : World) (id a : ℕ) → first (growTests w id) ≡ 0 → l
 unfolding refusalTo byteFor accept
 grown-next w id a z e =
     let n : ℕ = stepLen w (regionIn w id) in
-    let r = room-passes w (growTests w id) n a z e in
+    let r = room-left w (growTests w id) n a e ∙ z in
     (answer-value _ _ r ∙ ap accepted e, next-accepted w (grow id) r ∙ ap (λ (o : Option ℕ). grownAt w id (orZero o)) e)

@@ -1,6 +1,5 @@
 -- What each accepted call adds to the held bytes and to the totals of tags, and takes away.
 use Prim.Native.Nat.{ℕ, _+_, max}
-use mathlib.Core.Bool.{cond}
 use mathlib.Core.List.{List, [], _∷_, _++_, map, map-append}
 use mathlib.Core.Path.{_≡_, ap, _∙_}
 use native.Mathlib.Omega.{arith}
@@ -13,13 +12,9 @@ use Rattle.numbers.specs.Keyed.{HasKey}
 use Rattle.numbers.specs.Range.{range}
 use Rattle.numbers.specs.Sums.{sum}
 use Rattle.model.proofs.Figures.{footprint-len}
-use Rattle.model.proofs.Regions.{sum-tag, sum-on, sum-without}
+use Rattle.model.proofs.Regions.{ifTag, sum-tag, sum-on, sum-without}
 use Rattle.numbers.proofs.Cases.{cases}
 use Rattle.numbers.proofs.Sums.{sum-append, total-one}
-
--- n bytes count for the tag t where they are of that tag.
-abbrev pub ifTag : (tag t n : ℕ) → ℕ
-ifTag tag t n = cond (eqb tag t) n 0
 
 -- ---- of any figure of a region
 

@@ -7,9 +7,10 @@ use lib.Dec.{eqb, leb, ltb}
 use lib.ListN.{length}
 use Rattle.footprint.specs.Footprint.{kindCode}
 use Rattle.footprint.specs.declared.RegionKind.the-variants.{Append, Slot}
-use Rattle.model.specs.Region.{Region, capacity, withData, regionOf, onRegion, without}
+use Rattle.model.specs.Region.{Region, capacity, withData, idOf, regionOf, onRegion, without}
 use Rattle.model.specs.Span.{leastFree, isNone, orZero}
 use Rattle.model.specs.World.{World, TagRow, tagRow, block, accountOf, hasRow, putRow, withTag}
+use Rattle.numbers.specs.Keyed.{hasKey}
 use Rattle.numbers.specs.Lists.{any, same}
 use Rattle.numbers.specs.Range.{Range, range}
 use Rattle.numbers.specs.Refusals.{refuse, first, Answer, answer, numberOf, valueOr}
@@ -37,7 +38,7 @@ pub data Call : Type 0 where
 
 -- 14. "The region number is held"; 16. "The region is unknown."
 unfoldable pub known : World → ℕ → Bool
-known w id = any (λ (r : Region). eqb (r .number) id) (w .regions)
+known w id = hasKey idOf id (w .regions)
 
 -- 18. "The name is held."
 unfoldable pub named : World → List ℕ → Bool

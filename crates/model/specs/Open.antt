@@ -68,8 +68,8 @@ regionsFrom o = eachRecord regionFrom (o .records) (o .extents)
 -- ---- the refusals
 
 -- 1 "over all"
-unfoldable pub listsFail : Opening → Bool
-listsFail o =
+unfoldable pub listsFailIn : Opening → Bool
+listsFailIn o =
     -- "More than 64 records, or an entry's count above 60, answer 1."
     ltb 64 (length (o .records))
     || any (λ (r : Record). ltb 60 (r .entry .«extent_count»)) (o .records)
@@ -116,7 +116,7 @@ marked lim rs = any (λ (m : ℕ). not (eqb (m % 4) 0)) (marksOf (map (usable li
 -- 14, then all are settled"
 unfoldable pub openRefusal : Opening → ℕ
 openRefusal o =
-    first (refuse 1 (listsFail o) ∷
+    first (refuse 1 (listsFailIn o) ∷
     refuse 2 (logsFailIn o) ∷
     refuse 3 (lengthFails (o .limits)) ∷
     first (eachRecord (recordRefusal (o .limits)) (o .records) (o .extents)) ∷

@@ -7,8 +7,8 @@ use Rattle.footprint.specs.Footprint.{blockOf}
 use Rattle.footprint.specs.declared.Limits.{Limits}
 use Rattle.freemap.specs.Gaps.{gapsOf}
 use Rattle.model.specs.Region.{Region, footprintLen, footprints}
-use Rattle.numbers.specs.Keyed.{keyed, putKeyed}
-use Rattle.numbers.specs.Lists.{any, keep}
+use Rattle.numbers.specs.Keyed.{hasKey, keyed, putKeyed}
+use Rattle.numbers.specs.Lists.{keep}
 use Rattle.numbers.specs.Range.{Range, total}
 use Rattle.numbers.specs.Sums.{sum}
 use Rattle.tagspace.specs.declared.Cap.{Cap}
@@ -68,7 +68,7 @@ abbrev pub logical : World → ℕ → ℕ
 logical w tag = sum (map (λ (r : Region). r .published) (ofTag tag (w .regions)))
 
 unfoldable pub hasRow : World → ℕ → Bool
-hasRow w tag = any (λ (t : TagRow). eqb (t .tag) tag) (w .rows)
+hasRow w tag = hasKey tagOf tag (w .rows)
 
 -- A tag's row, one without a cap where it has none.
 abbrev pub rowOf : ℕ → List TagRow → TagRow

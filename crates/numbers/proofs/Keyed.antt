@@ -1,17 +1,19 @@
 -- The element of a key, and an element put in its place. Over any element type.
 use Prim.Native.Nat.{ℕ, zero, suc, _+_, _≤_, _<_}
+use mathlib.Core.Bool.{Bool, true, false}
 use mathlib.Core.List.{List, [], _∷_, _++_}
 use mathlib.Core.Logic.{_⊎_, inl, inr, ⊎-elim}
 use mathlib.Core.Path.{_≡_, refl, ap, sym, subst, _∙_}
 use native.Mathlib.Nat.{le-of-suc-le-suc, not-suc-le-zero}
 use native.Mathlib.Omega.{arith}
+use lib.Dec.{eqb}
 use lib.ListN.{length, getD, take, drop, set, take-append-drop}
 use lib.Seq.{set-split, split-at}
-use borrow.Author.Tests.{lt-ltb, le-ltb, eq-eqb, ne-eqb}
-use Rattle.numbers.specs.Keyed.{HasKey, InKeyOrder, keyed, putKeyed}
+use borrow.Author.Tests.{lt-ltb, le-ltb, eq-eqb, ne-eqb, eqb-true, eqb-false}
+use Rattle.numbers.specs.Keyed.{HasKey, hasKey, InKeyOrder, keyed, putKeyed}
 use Rattle.numbers.specs.Lists.{All, Any}
 use Rattle.numbers.proofs.Cases.{by-lt, by-eq, by-order}
-use Rattle.numbers.proofs.Lists.{all-at, all-imp, all-none, pairwise-before}
+use Rattle.numbers.proofs.Lists.{all-at, all-imp, all-none, any-imp, any-true, any-false, of-any, pairwise-before}
 
 -- all keys are lower than n, or higher
 abbrev pub Lower : {A : Type 0} → (A → ℕ) → ℕ → List A → Type 0
@@ -21,6 +23,23 @@ abbrev pub Higher : {A : Type 0} → (A → ℕ) → ℕ → List A → Type 0
 Higher {A} key n xs = All (λ (y : A). n < key y) xs
 
 module _ {A : Type 0} (key : A → ℕ) where
+  -- the test says whether some element has the key
+  module _ (n : ℕ) (xs : List A) where
+    abbrev is : A → Bool
+    is x = eqb (key x) n
+
+    pub key-true : hasKey key n xs ≡ true → HasKey key n xs
+    unfolding hasKey
+    key-true e = any-imp (λ (x : A). is x ≡ true) (λ (x : A). key x ≡ n) (λ x. eqb-true (key x) n) xs (any-true is xs e)
+
+    pub true-key : HasKey key n xs → hasKey key n xs ≡ true
+    unfolding hasKey
+    true-key h = of-any is xs (any-imp (λ (x : A). key x ≡ n) (λ (x : A). is x ≡ true) (λ x. eq-eqb (key x) n) xs h)
+
+    pub key-false : hasKey key n xs ≡ false → All (λ (x : A). key x ≡ n → ⊥) xs
+    unfolding hasKey
+    key-false e = all-imp (λ (x : A). is x ≡ false) (λ (x : A). key x ≡ n → ⊥) (λ x. eqb-false (key x) n) xs (any-false is xs e)
+
   -- an element that is not the first is behind it
   pub has-later : (n : ℕ) (x : A) (xs : List A) → (key x ≡ n → ⊥) → HasKey key n (x ∷ xs) → HasKey key n xs
   has-later n x xs d h = ⊎-elim (λ e. absurd (d e)) (λ a. a) h

@@ -1,14 +1,18 @@
 -- Lists whose elements have a number each, their key: the element of a key, and a list in the order of its keys.
 use Prim.Native.Nat.{ℕ, _<_}
-use mathlib.Core.Bool.{cond}
+use mathlib.Core.Bool.{Bool, cond}
 use mathlib.Core.List.{List, [], _∷_}
 use mathlib.Core.Path.{_≡_}
 use lib.Dec.{ltb, eqb}
-use Rattle.numbers.specs.Lists.{Any, Pairwise}
+use Rattle.numbers.specs.Lists.{Any, Pairwise, any}
 
 -- Some element has the key n.
 abbrev pub HasKey : {A : Type 0} → (A → ℕ) → ℕ → List A → Type 0
 HasKey {A} key n xs = Any (λ (x : A). key x ≡ n) xs
+
+-- The same as a test; `key-true`, `true-key` and `key-false` (proofs/Keyed) tie it to `HasKey`.
+unfoldable pub hasKey : {A : Type 0} → (A → ℕ) → ℕ → List A → Bool
+hasKey {A} key n xs = any (λ (x : A). eqb (key x) n) xs
 
 -- The keys rise: one element a key.
 abbrev pub InKeyOrder : {A : Type 0} → (A → ℕ) → List A → Type 0
