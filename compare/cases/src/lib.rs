@@ -6,6 +6,7 @@ pub mod flat;
 pub mod footprint;
 pub mod freemap;
 pub mod lent;
+pub mod plan;
 pub mod random;
 pub mod regionmap;
 pub mod settle;

@@ -1,7 +1,7 @@
 //! Times both sides on the same inputs in one run. Argument: a seed.
 
 use cases::random::{Random, SEED};
-use cases::{accounting, align, footprint, freemap, regionmap, settle, sort, table};
+use cases::{accounting, align, footprint, freemap, plan, regionmap, settle, sort, table};
 
 fn main() {
     let seed = std::env::args()
@@ -15,4 +15,5 @@ fn main() {
     settle::bench(&mut Random::new(seed));
     freemap::bench(&mut Random::new(seed));
     accounting::bench(&mut Random::new(seed));
+    plan::bench(&mut Random::new(seed));
 }

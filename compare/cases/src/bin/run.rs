@@ -1,7 +1,7 @@
 //! Runs both sides on the same inputs. Argument: a seed.
 
 use cases::random::{Random, SEED};
-use cases::{accounting, align, footprint, freemap, regionmap, settle, sort};
+use cases::{accounting, align, footprint, freemap, plan, regionmap, settle, sort};
 use std::process::ExitCode;
 
 type Compare = fn(&mut Random) -> Result<usize, String>;
@@ -11,7 +11,7 @@ fn main() -> ExitCode {
         .nth(1)
         .map_or(SEED, |a| a.parse().expect("the seed is a number"));
     println!("seed {seed}");
-    let modules: [(&str, Compare); 7] = [
+    let modules: [(&str, Compare); 8] = [
         ("align", align::compare),
         ("sort", sort::compare),
         ("footprint", footprint::compare),
@@ -19,6 +19,7 @@ fn main() -> ExitCode {
         ("settle", settle::compare),
         ("freemap", freemap::compare),
         ("accounting", accounting::compare),
+        ("plan", plan::compare),
     ];
     for (name, compare) in modules {
         match compare(&mut Random::new(seed)) {

@@ -1,0 +1,167 @@
+//! The plan's times, a column for each side.
+
+use super::call::{APPEND, EXTENTS, Entry, Header, Name, Opening, Places, REGIONS, Record};
+use super::records::LONGEST;
+use super::sequence::{Told, name, named};
+use super::side::{Maker, Side};
+use crate::flat::flat;
+use crate::random::Random;
+use crate::table::median;
+use std::cell::RefCell;
+use std::hint::black_box;
+
+/// The sides that are timed.
+const SIDES: [(&str, Maker<'static>); 2] =
+    [("model", &super::model), ("in place", &super::in_place)];
+
+const BLOCK: u64 = 4096;
+
+fn head() {
+    let names = SIDES.map(|(name, _)| format!("{:>14}", format!("{name} ns")));
+    println!("\n{:<44} {}", "plan", names.join(" "));
+}
+
+/// Times the same on each side.
+fn row(operation: &str, time: impl Fn(Maker) -> f64) {
+    let times = SIDES.map(|(_, make)| format!("{:>14.1}", time(make)));
+    println!("{operation:<44} {}", times.join(" "));
+}
+
+/// Regions of so many extents in a long container. Their extents stand in turn, so none join; behind
+/// all is room.
+fn opening(counts: &[usize]) -> Opening {
+    let mut told = Told::empty(12, BLOCK, LONGEST);
+    let n = counts.len() as u64;
+    let at = |turn: u64, i: u64| BLOCK * (1 + 2 * (turn * n + i));
+    for (i, &count) in (0..).zip(counts) {
+        let extents: Vec<_> = (1..=count as u64).map(|k| (at(k, i), BLOCK)).collect();
+        let capacity = count as u64 * BLOCK;
+        let entry = Entry {
+            kind: APPEND,
+            flags: 0,
+            extent_count: count as u16,
+            header_a: at(0, i),
+            header_b: at(0, i) + BLOCK,
+            span_start: BLOCK,
+            span_end: LONGEST,
+            data_size: capacity,
+            capacity,
+            footprint_seq: i + 1,
+        };
+        let header = Header {
+            region_id: i,
+            kind: APPEND,
+            flags: 0,
+            ready: true,
+            log2_block: 12,
+            extent_count: count as u16,
+        };
+        let record = Record {
+            number: i,
+            tag: i as u32,
+            name: Name::new(&name(named(i + 1, 16))),
+            entry,
+            header,
+        };
+        told.records.push((record, flat(&extents)));
+    }
+    told.opening()
+}
+
+fn opened(make: Maker, opening: &Opening) -> Box<dyn Side> {
+    let mut side = make();
+    assert!(side.open(opening).accepted());
+    side
+}
+
+/// One of so many calls in a row on a plan as it was opened.
+fn one(side: &mut dyn Side, calls: u64, mut call: impl FnMut(&mut dyn Side, u64)) -> f64 {
+    let many = |_: &mut ()| (0..calls).for_each(|k| call(side, k));
+    median(11, || (), many) / calls as f64
+}
+
+/// A single call, undone or opened again before each round.
+fn once(
+    side: Box<dyn Side>,
+    undo: impl Fn(&mut dyn Side),
+    call: impl Fn(&mut dyn Side) -> bool,
+) -> f64 {
+    let side = RefCell::new(side);
+    median(
+        31,
+        || undo(&mut **side.borrow_mut()),
+        |()| assert!(call(&mut **side.borrow_mut())),
+    )
+}
+
+fn regions(n: usize, random: &mut Random) {
+    let full = opening(&vec![EXTENTS; n]);
+    let others = opening(&vec![EXTENTS; n - 1]);
+    let mut counts = vec![EXTENTS; n];
+    counts[n / 2] = EXTENTS - 1;
+    let growing = opening(&counts);
+    let id = n as u64 / 2;
+    let of = match n {
+        1 => String::from("1 region of 60 extents"),
+        n => format!("{n} regions of 60 extents"),
+    };
+    let new = name(named(1000, 16));
+    row(&format!("create beside {} regions of 60", n - 1), |make| {
+        let undo = |side: &mut dyn Side| {
+            side.drop(1000, Places::ALL);
+        };
+        once(opened(make, &others), undo, |side| {
+            side.create(1000, 1000, &new, Places::ALL).accepted()
+        })
+    });
+    row(&format!("grow, the 60th of {of}"), |make| {
+        let again = |side: &mut dyn Side| assert!(side.open(&growing).accepted());
+        once(opened(make, &growing), again, |side| {
+            side.grow(id, Places::ALL).accepted()
+        })
+    });
+    row(&format!("drop in {of}"), |make| {
+        let again = |side: &mut dyn Side| assert!(side.open(&full).accepted());
+        once(opened(make, &full), again, |side| {
+            side.drop(id, Places::ALL).accepted()
+        })
+    });
+    row(&format!("publish in {of}"), |make| {
+        one(&mut *opened(make, &full), 1000, |side, k| {
+            let len = k % (EXTENTS as u64 + 1) * BLOCK;
+            assert!(side.publish(id, black_box(len)).accepted());
+        })
+    });
+    let positions: Vec<(u64, u64)> = (0..1000)
+        .map(|_| (random.below(n as u64), random.below(EXTENTS as u64 * BLOCK)))
+        .collect();
+    row(&format!("locate in {of}"), |make| {
+        one(&mut *opened(make, &full), 1000, |side, k| {
+            let (id, pos) = positions[k as usize];
+            assert!(side.locate(id, pos, 1, Places::ALL).accepted());
+        })
+    });
+    row(&format!("held of {of}"), |make| {
+        one(&mut *opened(make, &full), 20, |side, _| {
+            black_box(side.held());
+        })
+    });
+    row(&format!("free of {of}"), |make| {
+        one(&mut *opened(make, &full), 20, |side, _| {
+            black_box(side.free());
+        })
+    });
+}
+
+pub fn bench(random: &mut Random) {
+    head();
+    for n in [1, 8, REGIONS] {
+        regions(n, random);
+    }
+    for (name, extents) in [("no", 0), ("60", EXTENTS)] {
+        let opening = opening(&[extents; REGIONS]);
+        row(&format!("open of 64 records of {name} extents"), |make| {
+            median(11, make, |side| assert!(side.open(&opening).accepted()))
+        });
+    }
+}

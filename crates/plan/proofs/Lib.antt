@@ -1,0 +1,11 @@
+pub mod Refusing
+pub mod Locating
+pub mod Publishing
+pub mod Capping
+pub mod Moving
+pub mod Dropping
+pub mod Stepping
+pub mod Seeking
+pub mod Creating
+pub mod Slots
+pub mod Growing

@@ -1,0 +1,4 @@
+pub mod Open
+pub mod Rows
+pub mod Accounts
+pub mod Build

@@ -1,0 +1,11 @@
+pub mod Rows
+pub mod Places
+pub mod Naming
+pub mod Laying
+pub mod Holding
+pub mod Regions
+pub mod Fitting
+pub mod Known
+pub mod Tags
+pub mod Changing
+pub mod Filing

@@ -1,0 +1,4 @@
+pub mod Record
+pub mod Plan
+pub mod Inner
+pub mod Promises

@@ -1,0 +1,1 @@
+// The position theorem stands in specs/Position.antt.
