@@ -1,18 +1,18 @@
 -- The element of a key, and an element put in its place. Over any element type.
 use Prim.Native.Nat.{ℕ, zero, suc, _+_, _≤_, _<_}
 use mathlib.Core.Bool.{Bool, true, false}
-use mathlib.Core.List.{List, [], _∷_, _++_}
+use mathlib.Core.List.{List, [], _∷_, _++_, map}
 use mathlib.Core.Logic.{_⊎_, inl, inr, ⊎-elim}
 use mathlib.Core.Path.{_≡_, refl, ap, sym, subst, _∙_}
 use native.Mathlib.Nat.{le-of-suc-le-suc, not-suc-le-zero}
 use native.Mathlib.Omega.{arith}
-use lib.Dec.{eqb}
+use lib.Dec.{eqb, ltb}
 use lib.ListN.{length, getD, take, drop, set, take-append-drop}
 use lib.Seq.{set-split, split-at}
 use borrow.Author.Tests.{lt-ltb, le-ltb, eq-eqb, ne-eqb, eqb-true, eqb-false}
 use Rattle.numbers.specs.Keyed.{HasKey, hasKey, InKeyOrder, keyed, putKeyed}
-use Rattle.numbers.specs.Lists.{All, Any}
-use Rattle.numbers.proofs.Cases.{by-lt, by-eq, by-order}
+use Rattle.numbers.specs.Lists.{All, Any, any}
+use Rattle.numbers.proofs.Cases.{cases, by-lt, by-eq, by-order}
 use Rattle.numbers.proofs.Lists.{all-at, all-imp, all-none, any-imp, any-true, any-false, of-any, pairwise-before}
 
 -- all keys are lower than n, or higher
@@ -277,3 +277,24 @@ module _ {A : Type 0} (key : A → ℕ) where
         ap (putKeyed key x) (sym (take-append-drop k xs))
         ∙ put-front x (take k xs) (drop k xs) (subst (λ (m : ℕ). Lower key m (take k xs)) (sym f) front)
         ∙ ap (λ (t : List A). take k xs ++ t) (put-behind x (drop k xs) (subst (λ (m : ℕ). Higher key m (drop k xs)) (sym f) behind))
+
+-- ---- lists with keys, mapped with their keys kept
+
+module _ {A B : Type 0} (g : A → B) (key : A → ℕ) (key′ : B → ℕ) (same : (x : A) → key′ (g x) ≡ key x) where
+  pub map-keyed : (other : A) (n : ℕ) (xs : List A) → g (keyed key other n xs) ≡ keyed key′ (g other) n (map g xs)
+  unfolding keyed
+  map-keyed other n [] = refl
+  map-keyed other n (x ∷ xs) = rw (same x) (cases (eqb (key x) n) (λ t. simp t) (λ t. simp t (map-keyed other n xs)))
+
+  pub map-put : (x : A) (xs : List A) → map g (putKeyed key x xs) ≡ putKeyed key′ (g x) (map g xs)
+  unfolding putKeyed
+  map-put x [] = refl
+  map-put x (y ∷ ys) =
+      rw (same x, same y)
+      (cases (ltb (key y) (key x)) (λ t. simp t (ap (λ (l : List B). g y ∷ l) (map-put x ys)))
+      (λ t. cases (eqb (key y) (key x)) (λ q. simp (t, q)) (λ q. simp (t, q))))
+
+  pub map-has : (n : ℕ) (xs : List A) → hasKey key′ n (map g xs) ≡ hasKey key n xs
+  unfolding hasKey any
+  map-has n [] = refl
+  map-has n (x ∷ xs) = rw (same x, map-has n xs)

@@ -4,15 +4,15 @@ use Prim.Native.Nat.{ℕ, zero, suc, _+_, _-_, _≤_, _<_}
 use mathlib.Core.Bool.{Bool, true, false, _||_, or-true, or-assoc}
 use mathlib.Core.List.{List, [], _∷_, _++_, map, reverse, reverse-cons}
 use mathlib.Core.Logic.{_⊎_, inl, inr, ⊎-elim}
-use mathlib.Core.Path.{_≡_, refl, ap, sym, _∙_}
+use mathlib.Core.Path.{_≡_, refl, ap, sym, subst, _∙_}
 use native.Mathlib.Nat.{le-of-suc-le-suc, not-suc-le-zero}
 use native.Mathlib.Omega.{arith}
 use lib.Dec.{eqb}
-use lib.ListN.{length, getD, drop, set, length-append, length-drop, length-reverse, List·getD-append}
+use lib.ListN.{length, getD, drop, set, length-append, length-drop, length-reverse, length-set, List·getD-append}
 use lib.Seq.{drop-cons, append-snoc, set-at, getD-at, getD-drop, getD-set-same, getD-set-other}
 use borrow.Author.Tests.{eq-eqb, eqb-true}
 use Rattle.numbers.specs.Lists.{All, Any, Pairwise, Distinct, any, same, written}
-use Rattle.numbers.proofs.Cases.{cases, clash, by-lt, and-true}
+use Rattle.numbers.proofs.Cases.{cases, clash, by-lt, by-eq, and-true}
 
 module _ {A : Type 0} (P : A → Type 0) where
   pub all-append : (xs ys : List A) → All P xs → All P ys → All P (xs ++ ys)
@@ -228,3 +228,48 @@ reverse-at {A} (x ∷ xs) t d h =
     let f : 0 ≡ suc (length xs) - 1 - t = omega arith in
     ap (λ (l : List A). getD l t d) (reverse-cons x xs) ∙ getD-at (reverse xs) x [] d t (omega arith)
     ∙ ap (λ (k : ℕ). getD (x ∷ xs) k d) f)
+
+-- ---- lists mapped, and one element of a list set or moved
+
+pub map-same : {A B : Type 0} (P : A → Type 0) (f g : A → B) → ((x : A) → P x → f x ≡ g x) → (l : List A) → All P l → map f l ≡ map g l
+map-same P f g e [] a = refl
+map-same P f g e (x ∷ l) a = rw (e x (a .0), map-same P f g e l (a .1))
+
+module _ {A : Type 0} where
+  pub all-set : (P : A → Type 0) (l : List A) (i : ℕ) (x : A) (d : A) → All P l → P x → All P (set l i x)
+  all-set P l i x d a p =
+      let n = length-set l i x in
+      all-of P (set l i x) d
+      (λ k h.
+      by-eq k i (λ e. subst P (sym (ap (λ (j : ℕ). getD (set l i x) j d) e ∙ getD-set-same l i x d (omega arith))) p)
+      (λ e. subst P (sym (getD-set-other l i k x d e)) (all-at P l k d a (omega arith))))
+
+  pub map-set : {B : Type 0} (f : A → B) (l : List A) (i : ℕ) (x : A) → map f (set l i x) ≡ set (map f l) i (f x)
+  map-set f [] i x = refl
+  map-set f (y ∷ l) zero x = refl
+  map-set {B} f (y ∷ l) (suc i) x = ap (λ (t : List B). f y ∷ t) (map-set f l i x)
+
+-- an element moved behind others
+module _ {A : Type 0} (R : A → A → Type 0) (turned : (a b : A) → R a b → R b a) where
+  sinks : (x : A) (ys zs : List A) → Pairwise R (x ∷ (ys ++ zs)) → Pairwise R (ys ++ (x ∷ zs))
+  sinks x [] zs p = p
+  sinks x (y ∷ ys) zs p = (
+    all-append (R y) ys (x ∷ zs) (all-left (R y) ys zs (p .1 .0)) (turned x y (p .0 .0), all-right (R y) ys zs (p .1 .0)),
+    sinks x ys zs (p .0 .1, p .1 .1),
+  )
+
+  pub pairwise-move : (xs : List A) (x : A) (ys zs : List A) → Pairwise R (xs ++ (x ∷ (ys ++ zs))) → Pairwise R ((xs ++ ys) ++ (x ∷ zs))
+  pairwise-move [] x ys zs p = sinks x ys zs p
+  pairwise-move (a ∷ xs) x ys zs p =
+      let b = all-right (R a) xs (x ∷ (ys ++ zs)) (p .0) in (
+        all-append (R a) (xs ++ ys) (x ∷ zs)
+            (all-append (R a) xs ys (all-left (R a) xs (x ∷ (ys ++ zs)) (p .0)) (all-left (R a) ys zs (b .1)))
+            (b .0, all-right (R a) ys zs (b .1)),
+        pairwise-move xs x ys zs (p .1),
+      )
+
+-- past the end
+pub past-none : {A : Type 0} (l : List A) (i : ℕ) (d : A) → length l ≤ i → getD l i d ≡ d
+past-none [] i d h = refl
+past-none (x ∷ l) zero d h = absurd (omega arith)
+past-none (x ∷ l) (suc i) d h = past-none l i d (omega arith)

@@ -132,3 +132,8 @@ module _ (rs : List Range) (s : List ℕ) where
 
   pub written-places : length rs ≤ length (pairs (written (flat rs) s))
   written-places = rw (written-pairs, length-append) (omega arith)
+
+pub flat-append : (xs ys : List Range) → flat (xs ++ ys) ≡ flat xs ++ flat ys
+unfolding flat
+flat-append [] ys = refl
+flat-append (x ∷ xs) ys = ap (λ (t : List ℕ). x .offset ∷ x .len ∷ t) (flat-append xs ys)

@@ -34,9 +34,8 @@ use Rattle.model.proofs.Steps.{created-next, next-accepted}
 use Rattle.model.proofs.Totals.{create-physical, create-logical}
 use Rattle.numbers.proofs.Answers.{accepted-is}
 use Rattle.numbers.proofs.Cases.{cases}
-use Rattle.numbers.proofs.Lists.{any-map, all-append, all-at}
+use Rattle.numbers.proofs.Lists.{all-set, any-map, all-append, all-at}
 use Rattle.numbers.proofs.Refusals.{none-first, pass-none, first-go, first-one}
-use Rattle.plan_record.proofs.Changing.{all-set}
 use Rattle.plan_record.proofs.Holding.{block-is}
 use Rattle.plan_record.proofs.Known.{regionAt, known-here, known-not, counted-is}
 use Rattle.plan_record.proofs.Tags.{tableIn, Taken, posting-taken, posting-refused, with-tag, accounted-added, if-none}

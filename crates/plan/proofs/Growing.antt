@@ -10,7 +10,7 @@ use native.Mathlib.Omega.{arith}
 use lib.Dec.{eqb, leb}
 use lib.ListN.{length, take, set, getD}
 use lib.Seq.{take-suc-set, length-take-le, getD-set-same}
-use borrow.Author.Tests.{le-leb, lt-leb, le-ltb}
+use borrow.Author.Tests.{le-leb, lt-leb}
 use borrow.Rule.Slice.PartMut.{midOf, putMid, put-same}
 use Rattle.accounting.specs.declared.Posted.{Posted}
 use Rattle.footprint.specs.Footprint.{kindCode}
@@ -49,7 +49,7 @@ use Rattle.plan_record.proofs.Rows.{row-length, row-own, row-held}
 use Rattle.plan_record.proofs.Tags.{Taken, posting-taken, row-no-full, rows-stay, accounted-added, if-none}
 use Rattle.plan.proofs.Creating.{cap-is}
 use Rattle.plan.proofs.Refusing.{called-refused, called-accepted, Accepts, at-no-refusal, valid-long}
-use Rattle.plan.proofs.Slots.{place-length, place-other, place-one, place-row}
+use Rattle.plan.proofs.Slots.{few-not, place-length, place-other, place-one, place-row}
 use Rattle.regionmap.proofs.ByExtents.{extend-goes}
 use Rattle.regionmap.proofs.Bytes.{lays-extended}
 use Rattle.regionmap.proofs.Means.{some-run}
@@ -59,10 +59,6 @@ use Rattle.model.specs.Region as region
 use Rattle.model.specs.World as world
 use Rattle.regionmap.specs.Map as regionmap
 use Rattle.regionmap.specs.declared.Mapped.the-variants as mapped
-
-few-not : (n : ℕ) (ss fs : List ℕ) → n ≤ length ss → n ≤ length fs → regionmap.tooFew n ss fs ≡ false
-unfolding regionmap.tooFew
-few-not n ss fs a b = simp (le-ltb _ _ a, le-ltb _ _ b)
 
 -- a refused grow leaves the lists
 module _ (p : Plan) (id : ℕ) (xs ss fs : List ℕ) where

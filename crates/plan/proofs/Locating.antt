@@ -21,6 +21,7 @@ use Rattle.numbers.proofs.Answers.{answer-number}
 use Rattle.numbers.proofs.Cases.{cases, clash}
 use Rattle.plan_record.proofs.Known.{regionAt, known-here, known-not, region-is, mapped-is, row-is}
 use Rattle.plan_record.proofs.Rows.{row-length, row-held}
+use Rattle.plan.proofs.Slots.{few-not}
 use Rattle.regionmap.proofs.ByExtents.{locate-by-extents}
 use Rattle.regionmap.specs.Map as regionmap
 use Rattle.regionmap.specs.declared.Located.the-variants as located
@@ -38,10 +39,6 @@ told-is (located.Refused n) = refl
 answer-some : (n b : ℕ) → withSome (answer n b) ≡ answer n (some b)
 unfolding answer
 answer-some n b = cases (eqb n 0) (λ e. simp e) (λ e. simp e)
-
-few-not : (n : ℕ) (ss fs : List ℕ) → n ≤ length ss → n ≤ length fs → regionmap.tooFew n ss fs ≡ false
-unfolding regionmap.tooFew
-few-not n ss fs a b = simp (le-ltb _ _ a, le-ltb _ _ b)
 
 -- ---- the returns
 

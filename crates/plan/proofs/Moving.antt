@@ -6,32 +6,12 @@ use native.Mathlib.Numerals.{add-one}
 use native.Mathlib.Omega.{arith}
 use lib.ListN.{length, take, drop, set, getD, length-append, length-take, length-drop, length-map, take-append-drop}
 use lib.Seq.{drop-cons, set-at, take-suc, getD-drop, getD-append-add, length-take-le, take-at, drop-at, take-add}
-use Rattle.numbers.specs.Lists.{All, Pairwise, Distinct}
+use Rattle.numbers.specs.Lists.{All, Distinct}
 use Rattle.plan_record.specs.Plan.{regionsOf, pastRegion}
 use Rattle.plan_record.specs.declared.Plan.{Plan}
 use Rattle.plan_record.specs.declared.Region.{Region}
 use Rattle.plan.specs.Inner.{moved, rotated}
-use Rattle.numbers.proofs.Lists.{all-append, all-left, all-right}
-
--- ---- an element moved behind others
-
-module _ {A : Type 0} (R : A → A → Type 0) (turned : (a b : A) → R a b → R b a) where
-  sinks : (x : A) (ys zs : List A) → Pairwise R (x ∷ (ys ++ zs)) → Pairwise R (ys ++ (x ∷ zs))
-  sinks x [] zs p = p
-  sinks x (y ∷ ys) zs p = (
-    all-append (R y) ys (x ∷ zs) (all-left (R y) ys zs (p .1 .0)) (turned x y (p .0 .0), all-right (R y) ys zs (p .1 .0)),
-    sinks x ys zs (p .0 .1, p .1 .1),
-  )
-
-  pub pairwise-move : (xs : List A) (x : A) (ys zs : List A) → Pairwise R (xs ++ (x ∷ (ys ++ zs))) → Pairwise R ((xs ++ ys) ++ (x ∷ zs))
-  pairwise-move [] x ys zs p = sinks x ys zs p
-  pairwise-move (a ∷ xs) x ys zs p =
-      let b = all-right (R a) xs (x ∷ (ys ++ zs)) (p .0) in (
-        all-append (R a) (xs ++ ys) (x ∷ zs)
-            (all-append (R a) xs ys (all-left (R a) xs (x ∷ (ys ++ zs)) (p .0)) (all-left (R a) ys zs (b .1)))
-            (b .0, all-right (R a) ys zs (b .1)),
-        pairwise-move xs x ys zs (p .1),
-      )
+use Rattle.numbers.proofs.Lists.{pairwise-move, all-append, all-left, all-right}
 
 -- ---- the loop
 

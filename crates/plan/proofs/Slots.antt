@@ -1,17 +1,19 @@
 -- One place of a row that changes: the row, the other rows, and what stands behind all rows.
 use Prim.Native.Nat.{ℕ, _+_, _-_, _*_, _≤_, _<_}
-use mathlib.Core.Bool.{Bool, cond}
+use mathlib.Core.Bool.{Bool, false, cond}
 use mathlib.Core.List.{List}
 use mathlib.Core.Logic.{inl, inr, ⊎-elim}
 use mathlib.Core.Path.{_≡_, ap, sym, _∙_}
 use native.Mathlib.Omega.{arith}
 use lib.ListN.{length, drop, set, length-set}
 use lib.Seq.{set-out, drop-set-lt}
+use borrow.Author.Tests.{le-ltb}
 use borrow.Rule.Slice.PartMut.{midOf, putMid, put-same, set-mid-at}
 use Rattle.plan_record.specs.Plan.{rowIn, places}
 use Rattle.plan.specs.Calls.{OnePlace}
 use Rattle.numbers.proofs.Cases.{cases, by-lt}
 use Rattle.plan_record.proofs.Rows.{row-length, row-own, row-other, row-part}
+use Rattle.regionmap.specs.Map as regionmap
 
 module _ {A : Type 0} (row : ℕ) (l₀ l : List A) (o : OnePlace row l₀ l) where
   pub place-length : length l ≡ length l₀
@@ -60,3 +62,9 @@ module _ {A : Type 0} (l : List A) (j : ℕ) (h : j < 64) (long : places ≤ len
         ∙ row-own l j k v m ∙ ap (λ (r : List A). set r k v) (sym (row-part l j)) ∙ sym q)
         (λ m. let z = q ∙ set-out part k v (omega (arith, part-length)) in ap (rowIn j) (same-back z) ∙ sym (row-part l j) ∙ sym z))
         (λ t. let z : ys ≡ part = e ∙ rw t in ap (rowIn j) (same-back z) ∙ sym (row-part l j) ∙ sym z)
+
+-- ---- lists that are long enough for a map
+
+pub few-not : (n : ℕ) (ss fs : List ℕ) → n ≤ length ss → n ≤ length fs → regionmap.tooFew n ss fs ≡ false
+unfolding regionmap.tooFew
+few-not n ss fs a b = simp (le-ltb _ _ a, le-ltb _ _ b)

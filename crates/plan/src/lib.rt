@@ -196,8 +196,8 @@ pub fn cap(mut plan: Plan, tag: u32, limit: Cap) -> Outcome
     if posted.refusal != 0 {
         return refuse(plan, posted.refusal);
     }
-    let counted = posted.accounts;
-    plan.accounts = counted;
+    let capped = posted.accounts;
+    plan.accounts = capped;
     Outcome {
         reply: Reply::Done,
         plan,

@@ -9,7 +9,7 @@ use lib.Seq.{getD-take, take-suc, take-all}
 use Rattle.numbers.specs.Lists.{All}
 use Rattle.plan_checks.specs.Early.{Tells}
 use Rattle.plan_checks.specs.Opening.{pastRecord, blankRecord, recordsOf}
-use Rattle.plan_record.specs.Record.{recordOf, nameOf}
+use Rattle.plan_record.specs.Record.{recordOf}
 use Rattle.plan_record.specs.declared.Record.{Record}
 use Rattle.numbers.proofs.Cases.{clash}
 use Rattle.numbers.proofs.Lists.{all-append, all-at, from-here, mapped-at}
@@ -50,9 +50,6 @@ module _ (f : model.Record → ℕ) (rs : List Record) (n : ℕ) where
 
     pub fields-end : n ≤ i → drop i fields ≡ []
     fields-end h = let l = fields-length in drop-of-length-le fields {i = i} (omega arith)
-
-pub name-length : (bytes : List ℕ) (n : ℕ) → length (nameOf bytes n) ≡ n
-name-length bytes n = simp (length-take, length-append, length-replicate) (omega arith)
 
 -- ---- what is true of the first i of n records
 

@@ -16,7 +16,8 @@ use Rattle.plan_record.specs.declared.Record.{Record}
 use Rattle.model.proofs.Opening.{countOf, listedBy}
 use Rattle.numbers.proofs.Cases.{clash}
 use Rattle.numbers.proofs.Sums.{sum-next}
-use Rattle.plan_checks.proofs.Reading.{fields-length, field-at, name-length, Upto, upto-begins, upto-on, upto-ends, not-all, tells-not, tells-by}
+use Rattle.plan_checks.proofs.Reading.{fields-length, field-at, Upto, upto-begins, upto-on, upto-ends, not-all, tells-not, tells-by}
+use Rattle.plan_record.proofs.Naming.{name-length}
 use Rattle.model.specs.Open as model
 
 -- the first i records are within their limits, and these are their sums

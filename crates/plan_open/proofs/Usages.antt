@@ -4,7 +4,6 @@ use mathlib.Core.Bool.{false}
 use mathlib.Core.List.{List, [], _∷_, _++_, map, map-append, map-map, reverse, reverse-cons}
 use mathlib.Core.Path.{_≡_, refl, ap, sym, _∙_}
 use native.Mathlib.Omega.{arith}
-use lib.Dec.{eqb, ltb}
 use lib.ListN.{length, take, drop, length-map, length-reverse}
 use lib.Seq.{take-at}
 use borrow.Author.Tests.{eq-eqb, ne-eqb}
@@ -14,7 +13,7 @@ use Rattle.accounting.specs.declared.Posted.{Posted}
 use Rattle.footprint.specs.declared.Limits.{Limits}
 use Rattle.model.specs.Region.{footprintLen}
 use Rattle.model.specs.World.{TagRow}
-use Rattle.numbers.specs.Keyed.{keyed, putKeyed}
+use Rattle.numbers.specs.Keyed.{putKeyed}
 use Rattle.numbers.specs.Lists.{All, written}
 use Rattle.numbers.specs.Sums.{top, stop, sum}
 use Rattle.plan_open.specs.Accounts.{tagOf, sizeOf, lenOf, usageOf, UsageIn, Accounted}
@@ -27,7 +26,8 @@ use Rattle.footprint.proofs.Regular.{accepted-regular}
 use Rattle.model.proofs.Figures.{footprint-len}
 use Rattle.model.proofs.Opening.{countOf, listedBy}
 use Rattle.model.proofs.Regions.{ifTag, sum-tag}
-use Rattle.numbers.proofs.Cases.{by-eq, cases}
+use Rattle.numbers.proofs.Cases.{by-eq}
+use Rattle.numbers.proofs.Keyed.{map-put, map-keyed}
 use Rattle.numbers.proofs.Sums.{sum-append}
 use Rattle.accounting.specs.Table as accounting
 use Rattle.model.specs.Open as model
@@ -69,20 +69,6 @@ module _ {lim : Limits} {ms : List model.Record} {t₀ t l₀ l p₀ p : List �
       record { table = ap (λ (q : Posted). tableOf (q .accounts)) h ∙ table-accounts (addAll us noTags); valid = c .valid }
 
 -- ---- rows: a map that keeps the key goes through `putKeyed` and `keyed`
-
-module _ {A B : Type 0} (f : A → B) (key : A → ℕ) (other-key : B → ℕ) (e : (x : A) → other-key (f x) ≡ key x) where
-  pub map-put : (x : A) (xs : List A) → map f (putKeyed key x xs) ≡ putKeyed other-key (f x) (map f xs)
-  unfolding putKeyed
-  map-put x [] = refl
-  map-put x (y ∷ ys) =
-      rw (e x, e y)
-      (cases (ltb (key y) (key x)) (λ t. simp t (ap (λ (l : List B). f y ∷ l) (map-put x ys)))
-      (λ t. cases (eqb (key y) (key x)) (λ q. simp (t, q)) (λ q. simp (t, q))))
-
-  pub map-keyed : (other : A) (n : ℕ) (xs : List A) → f (keyed key other n xs) ≡ keyed other-key (f other) n (map f xs)
-  unfolding keyed
-  map-keyed other n [] = refl
-  map-keyed other n (x ∷ xs) = rw (e x) (cases (eqb (key x) n) (λ t. simp t) (λ t. simp t (map-keyed other n xs)))
 
 add-append : (us vs : List Usage) (t : Table) → addAll (us ++ vs) t ≡ addAll vs (addAll us t)
 unfolding addAll

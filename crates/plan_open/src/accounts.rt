@@ -3,7 +3,7 @@ use accounting::Accounting;
 use footprint::Limits;
 use numbers::add_stop;
 use plan_record::Record;
-use plan_settled::block_of;
+use plan_record::figures::block_of;
 ghost use mathlib.Core.Path.{_≡_};
 ghost use Prim.Native.Nat.{_≤_};
 ghost use lib.ListN.{length};
@@ -23,7 +23,7 @@ fn list_usage(
     requires { ⌜ (limits .«log2_block» ≤ 16) × Room count (length (now tags)) (length (now logical)) (length (now physical)) ⌝ }
     ensures { λ _. ⌜ UsageIn limits (recordsOf records count) (now (tags .entry)) (now (tags .exit)) (now (logical .entry)) (now (logical .exit)) (now (physical .entry)) (now (physical .exit)) ⌝ }
 {
-    let block = block_of(limits);
+    let block = block_of(limits.log2_block);
     let blocks = add_stop(block, block);
     let mut i = 0;
     while i < count {

@@ -1,6 +1,6 @@
 -- A plan with one region changed in its place.
-use Prim.Native.Nat.{ℕ, zero, suc, _≤_, _<_}
-use mathlib.Core.List.{List, [], _∷_, map}
+use Prim.Native.Nat.{ℕ, _≤_, _<_}
+use mathlib.Core.List.{List, map}
 use mathlib.Core.Path.{_≡_, refl, ap, sym, subst, _∙_}
 use native.Mathlib.Omega.{arith}
 use lib.ListN.{length, set, getD, length-map, length-set, length-take}
@@ -15,27 +15,11 @@ use Rattle.plan_record.specs.declared.Plan.{Plan}
 use Rattle.plan_record.specs.declared.Region.{Region}
 use Rattle.model.proofs.Sound.{Sound}
 use Rattle.numbers.proofs.Cases.{by-eq}
-use Rattle.numbers.proofs.Lists.{all-at, all-of}
+use Rattle.numbers.proofs.Lists.{all-set, map-set, all-at, all-of}
 use Rattle.plan_record.proofs.Known.{regionAt, numbers-same, world-at, counted-is, mapped-is}
 use Rattle.plan_record.proofs.Places.{on-place}
 use Rattle.accounting.specs.Table as accounting
 use Rattle.model.specs.Region as model
-
--- ---- one element set
-
-module _ {A : Type 0} where
-  pub all-set : (P : A → Type 0) (l : List A) (i : ℕ) (x : A) (d : A) → All P l → P x → All P (set l i x)
-  all-set P l i x d a p =
-      let n = length-set l i x in
-      all-of P (set l i x) d
-      (λ k h.
-      by-eq k i (λ e. subst P (sym (ap (λ (j : ℕ). getD (set l i x) j d) e ∙ getD-set-same l i x d (omega arith))) p)
-      (λ e. subst P (sym (getD-set-other l i k x d e)) (all-at P l k d a (omega arith))))
-
-  pub map-set : {B : Type 0} (f : A → B) (l : List A) (i : ℕ) (x : A) → map f (set l i x) ≡ set (map f l) i (f x)
-  map-set f [] i x = refl
-  map-set f (y ∷ l) zero x = refl
-  map-set {B} f (y ∷ l) (suc i) x = ap (λ (t : List B). f y ∷ t) (map-set f l i x)
 
 -- ---- rows that stay
 

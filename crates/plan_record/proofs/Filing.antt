@@ -1,7 +1,7 @@
 -- A region handed out as open's own record.
-use Prim.Native.Nat.{ℕ, zero, suc, _+_, _*_, _≤_, _<_, min}
+use Prim.Native.Nat.{ℕ, _+_, _*_, _≤_, _<_, min}
 use mathlib.Core.Bool.{true, _||_, or-true}
-use mathlib.Core.List.{List, [], _∷_, _++_, append-assoc}
+use mathlib.Core.List.{List, _++_, append-assoc}
 use mathlib.Core.Option.{none}
 use mathlib.Core.Path.{_≡_, refl, ap, sym, subst, _∙_}
 use native.Mathlib.Nat.{zero-add}
@@ -24,7 +24,8 @@ use Rattle.plan_record.specs.declared.Region.{Region}
 use Rattle.plan_record.specs.declared.Reply.{Reply}
 use Rattle.plan_record.specs.declared.Reply.the-variants.{Done, Refused}
 use Rattle.numbers.proofs.Answers.{answer-value, one-fails}
-use Rattle.numbers.proofs.Pairs.{length-pairs, length-flat, flat-pairs, pairs-flat, pairs-take, pairs-drop, same-pairs}
+use Rattle.numbers.proofs.Lists.{past-none}
+use Rattle.numbers.proofs.Pairs.{flat-append, length-pairs, length-flat, flat-pairs, pairs-flat, pairs-take, pairs-drop, same-pairs}
 use Rattle.plan_record.proofs.Fitting.{extents-are}
 use Rattle.plan_record.proofs.Known.{regionAt, world-at, mapped-is, row-is}
 use Rattle.plan_record.proofs.Laying.{extents-length}
@@ -48,11 +49,6 @@ by-pairs l =
     sym (take-append-drop (2 * length (pairs l)) l)
     ∙ ap (λ (t : List ℕ). t ++ drop (2 * length (pairs l)) l) (even-front (length (pairs l)) l (omega arith) ∙ ap flat (take-length (pairs l)))
 
-flat-append : (xs ys : List Range) → flat (xs ++ ys) ≡ flat xs ++ flat ys
-unfolding flat
-flat-append [] ys = refl
-flat-append (x ∷ xs) ys = ap (λ (t : List ℕ). x .offset ∷ x .len ∷ t) (flat-append xs ys)
-
 -- ranges laid from the front on are written over the front
 pub laid-written : (s t : List ℕ) (rs : List Range) → Lays s t 0 rs → length t ≡ length s → length rs ≤ length (pairs s) → t ≡ flat rs ++ drop (length (flat rs)) s
 laid-written s t rs l e h =
@@ -72,11 +68,6 @@ laid-written s t rs l e h =
     ∙ ap (λ (u : List ℕ). flat rs ++ u) (sym (ap (λ (j : ℕ). drop j s) n ∙ d))
 
 -- ---- the returns
-
-past-none : {A : Type 0} (l : List A) (i : ℕ) (d : A) → length l ≤ i → getD l i d ≡ d
-past-none [] i d h = refl
-past-none (x ∷ l) zero d h = absurd (omega arith)
-past-none (x ∷ l) (suc i) d h = past-none l i d (omega arith)
 
 done-refused : (n : ℕ) → Done ≡ Refused n → ⊥
 done-refused n e = let z : _≡_ {A = ℕ} 0 1 = cc in omega arith

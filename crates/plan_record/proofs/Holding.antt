@@ -1,13 +1,12 @@
 -- Held and free bytes by two blocks and the capacity of each region.
 use Prim.Native.Nat.{ℕ, _+_, _-_, _*_, _^_, _≤_, _<_, min}
-use mathlib.Core.List.{List, [], _∷_, map}
+use mathlib.Core.List.{List, map, map-map}
 use mathlib.Core.Path.{_≡_, refl, ap, sym, _∙_}
 use native.Mathlib.Numerals.{add-one}
 use native.Mathlib.Omega.{arith}
 use lib.ListN.{length, take, getD, length-map, length-take}
 use lib.Seq.{getD-take, take-all}
 use Rattle.model.specs.World.{block, held}
-use Rattle.numbers.specs.Lists.{All}
 use Rattle.numbers.specs.Sums.{stop, sum}
 use Rattle.plan_record.specs.Inner.{blockIn, heldBy}
 use Rattle.plan_record.specs.Plan.{regionOf, regionsOf, worldOf, Mapped, Valid, pastRegion}
@@ -15,9 +14,13 @@ use Rattle.plan_record.specs.Promises.{HeldTold, FreeTold}
 use Rattle.plan_record.specs.declared.Plan.{Plan}
 use Rattle.plan_record.specs.declared.Region.{Region}
 use Rattle.model.proofs.Figures.{held-by-capacity, held-and-free, held-most}
-use Rattle.numbers.proofs.Lists.{mapped-at}
+use Rattle.numbers.proofs.Lists.{map-same, mapped-at}
 use Rattle.numbers.proofs.Sums.{sum-next, stop-add}
 use Rattle.model.specs.Region as model
+
+-- a block by its log, where that is one of a container
+pub block-small : {r n : ℕ} → r ≡ 2 ^ min n 16 → n ≤ 16 → r ≡ 2 ^ n
+block-small {r} {n} e h = e ∙ ap (λ (m : ℕ). 2 ^ m) (let q : min n 16 ≡ n = omega arith in q)
 
 -- ---- the loop
 
@@ -52,25 +55,17 @@ module _ {p : Plan} {n i s : ℕ} (g : Summing p n i s) where
 
 -- ---- what the sum is
 
-map-same : {A B : Type 0} (P : A → Type 0) (f g : A → B) → ((x : A) → P x → f x ≡ g x) → (l : List A) → All P l → map f l ≡ map g l
-map-same P f g e [] a = refl
-map-same P f g e (x ∷ l) a = rw (e x (a .0), map-same P f g e l (a .1))
-
-map-twice : {A B C : Type 0} (f : B → C) (g : A → B) (l : List A) → map f (map g l) ≡ map (λ (x : A). f (g x)) l
-map-twice f g [] = refl
-map-twice {A} {B} {C} f g (x ∷ l) = ap (λ (t : List C). f (g x) ∷ t) (map-twice f g l)
-
 module _ (p : Plan) (xs ss fs : List ℕ) (v : Valid p xs ss fs) where
   pub block-is : blockIn p ≡ block (worldOf p xs)
   unfolding worldOf
-  block-is = ap (λ (n : ℕ). 2 ^ n) (let e : min (p .limits .«log2_block») 16 ≡ p .limits .«log2_block» = omega (arith, v .sound .container .high) in e)
+  block-is = block-small refl (v .sound .container .high)
 
   parts-sum : sum (parts p) ≡ held (worldOf p xs)
   unfolding worldOf
   parts-sum =
       let w = worldOf p xs in
       let f : model.Region → ℕ = λ r. 2 * block w + model.capacity r in
-      sym (held-by-capacity w ∙ ap sum (map-twice f (regionOf xs) (regionsOf p)
+      sym (held-by-capacity w ∙ ap sum (map-map f (regionOf xs) (regionsOf p)
       ∙ map-same (Mapped xs ss fs) (λ (r : Region). f (regionOf xs r)) (heldBy (blockIn p))
       (λ r m. let c = m .lays .capacity in let b = block-is in omega arith) (regionsOf p) (v .mapped)))
 

@@ -1,7 +1,7 @@
 -- The accounts of a valid plan: which postings are refused, and that the rows of the plan handed back have its totals.
 use Prim.Native.Nat.{ℕ, _+_, _-_, _≤_, _<_}
 use mathlib.Core.Bool.{true, false, not}
-use mathlib.Core.List.{List, [], _∷_, map}
+use mathlib.Core.List.{List, map}
 use mathlib.Core.Path.{_≡_, refl, ap, sym, subst, _∙_}
 use native.Mathlib.Omega.{arith}
 use lib.Dec.{eqb, leb}
@@ -10,8 +10,7 @@ use borrow.Author.Tests.{eq-eqb, ne-eqb, leb-true, leb-false, not-true}
 use Rattle.accounting.specs.declared.Accounting.{Accounting}
 use Rattle.accounting.specs.declared.Posted.{Posted}
 use Rattle.model.specs.Calls.{tagFull}
-use Rattle.numbers.specs.Keyed.{HasKey, hasKey, keyed, putKeyed}
-use Rattle.numbers.specs.Lists.{any}
+use Rattle.numbers.specs.Keyed.{HasKey}
 use Rattle.plan_record.specs.Plan.{rowsOf, capOf, worldOf, Valid}
 use Rattle.plan_record.specs.declared.Plan.{Plan}
 use Rattle.tagspace.specs.Row.{blank, addUsage, removeUsage}
@@ -24,37 +23,11 @@ use Rattle.model.proofs.Figures.{held-most, physical-most, logical-most}
 use Rattle.model.proofs.Regions.{ifTag}
 use Rattle.model.proofs.Rows.{true-row}
 use Rattle.model.proofs.Sound.{Sound}
-use Rattle.numbers.proofs.Cases.{cases, by-eq, by-order, clash, and-true}
-use Rattle.numbers.proofs.Keyed.{key-true, true-key, put-lower, put-here, put-before, put-same, keyed-any-key}
+use Rattle.numbers.proofs.Cases.{cases, by-eq, clash, and-true}
+use Rattle.numbers.proofs.Keyed.{map-keyed, map-put, map-has, key-true, true-key, put-same, keyed-any-key}
 use Rattle.accounting.specs.Table as accounting
 use Rattle.model.specs.World as model
 use Rattle.tagspace.specs.declared.Cap.the-variants as cap-is
-
--- ---- lists with keys, mapped with their keys kept
-
-module _ {A B : Type 0} (g : A → B) (key : A → ℕ) (key′ : B → ℕ) (same : (x : A) → key′ (g x) ≡ key x) where
-  pub map-keyed : (other : A) (n : ℕ) (xs : List A) → g (keyed key other n xs) ≡ keyed key′ (g other) n (map g xs)
-  unfolding keyed
-  map-keyed other n [] = refl
-  map-keyed other n (x ∷ xs) =
-      by-eq (key x) n (λ e. simp (eq-eqb _ _ e, eq-eqb _ _ (same x ∙ e)))
-      (λ d. simp (ne-eqb _ _ d, ne-eqb (key′ (g x)) n (λ e. d (sym (same x) ∙ e))) (map-keyed other n xs))
-
-  pub map-put : (x : A) (xs : List A) → map g (putKeyed key x xs) ≡ putKeyed key′ (g x) (map g xs)
-  unfolding putKeyed
-  map-put x [] = refl
-  map-put x (y ∷ ys) =
-      let s = same x in
-      let t = same y in
-      by-order (key y) (key x)
-      (λ l. ap (map g) (put-lower key x y ys l) ∙ ap (λ (l : List B). g y ∷ l) (map-put x ys) ∙ sym (put-lower key′ (g x) (g y) (map g ys) (omega arith)))
-      (λ e. ap (map g) (put-here key x y ys e) ∙ sym (put-here key′ (g x) (g y) (map g ys) (omega arith)))
-      (λ l. ap (map g) (put-before key x y ys l) ∙ sym (put-before key′ (g x) (g y) (map g ys) (omega arith)))
-
-  pub map-has : (n : ℕ) (xs : List A) → hasKey key′ n (map g xs) ≡ hasKey key n xs
-  unfolding hasKey any
-  map-has n [] = refl
-  map-has n (x ∷ xs) = rw (same x, map-has n xs)
 
 -- ---- a plan's rows in its world
 

@@ -11,7 +11,6 @@ use Rattle.footprint.specs.declared.Limits.{Limits}
 use Rattle.model.specs.Region.{Region, footprint, footprints}
 use Rattle.numbers.specs.Lists.{All, written}
 use Rattle.numbers.specs.Pairs.{flat}
-use Rattle.numbers.specs.Range.{Range}
 use Rattle.numbers.specs.Sums.{sum}
 use Rattle.plan_checks.specs.Early.{rangesOf}
 use Rattle.plan_checks.specs.Opening.{blankRecord, recordsOf}
@@ -19,7 +18,7 @@ use Rattle.plan_record.specs.declared.Record.{Record}
 use Rattle.plan_settled.specs.Settled.{Covered, Layable, regionsIn}
 use Rattle.model.proofs.Opening.{countOf, listedBy}
 use Rattle.numbers.proofs.Lists.{all-at, written-length}
-use Rattle.numbers.proofs.Pairs.{flat-pairs, pairs-take}
+use Rattle.numbers.proofs.Pairs.{flat-append, flat-pairs, pairs-take}
 use Rattle.numbers.proofs.Sums.{sum-split}
 use Rattle.plan_checks.proofs.Along.{sum-part, records-end, Along, along-begins, this, own, own-part, own-length, along-on, each-next}
 use Rattle.plan_checks.proofs.Reading.{records-length, record-at}
@@ -74,11 +73,6 @@ module _ (lim : Limits) (r : model.Record) (xs : List ℕ) (block : ℕ) where
       behind-four s ys e ∙ rw (w, b, committed-flat r xs h)
 
 -- ---- all
-
-flat-append : (xs ys : List Range) → flat (xs ++ ys) ≡ flat xs ++ flat ys
-unfolding flat
-flat-append [] ys = refl
-flat-append (x ∷ xs) ys = ap (λ (l : List ℕ). x .offset ∷ x .len ∷ l) (flat-append xs ys)
 
 -- the ranges of the first i records stand in s
 pub record Laying (lim : Limits) (rs : List Record) (n : ℕ) (l s₀ s : List ℕ) (i at to : ℕ) : Type 0 where

@@ -9,7 +9,8 @@ use Rattle.plan_checks.specs.Opening.{pastRecord, recordsOf}
 use Rattle.plan_record.specs.Record.{recordOf}
 use Rattle.plan_record.specs.declared.Record.{Record}
 use Rattle.plan_settled.specs.Settled.{seqOf, nameLen, FieldsIn}
-use Rattle.plan_checks.proofs.Reading.{fields-length, field-at, name-length}
+use Rattle.plan_checks.proofs.Reading.{fields-length, field-at}
+use Rattle.plan_record.proofs.Naming.{name-length}
 use Rattle.plan_settled.proofs.Filling.{Filling, fill-begins, fill-size, fill-on, fill-all}
 use Rattle.model.specs.Open as model
 

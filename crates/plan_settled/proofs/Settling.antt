@@ -24,7 +24,8 @@ use Rattle.settle.specs.Settle.{marksOf, rangesIn, settleFails, Settled}
 use Rattle.model.proofs.Opening.{countOf, listedBy}
 use Rattle.numbers.proofs.Lists.{all-both, all-map, map-all}
 use Rattle.numbers.proofs.Pairs.{length-pairs, even-list, written-pairs}
-use Rattle.plan_checks.proofs.Reading.{records-length, name-length}
+use Rattle.plan_checks.proofs.Reading.{records-length}
+use Rattle.plan_record.proofs.Naming.{name-length}
 use Rattle.plan_settled.proofs.Naming.{bytes-length}
 use Rattle.plan_settled.proofs.Passing.{passed-lists, passed-few, passed-all, passed-ranges, passed-listed}
 use Rattle.settle.proofs.Marking.{marks-length}

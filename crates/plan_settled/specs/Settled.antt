@@ -16,11 +16,6 @@ use Rattle.plan_record.specs.declared.Record.{Record}
 use Rattle.model.proofs.Opening.{countOf, listedBy}
 use Rattle.model.specs.Open as model
 
--- What `block_of` promises: "block = 2^L", where it is a u64.
-pub record Block (lim : Limits) (r : ℕ) : Type 0 where
-  pub small : lim .«log2_block» < 64 → r ≡ blockOf lim
-  pub large : 64 ≤ lim .«log2_block» → r ≡ 0
-
 -- Refusals 1 to 14 do not apply, with some number of places.
 pub record Passed (lim : Limits) (rs : List Record) (n : ℕ) (listed : List ℕ) (scratch : ℕ) : Type 0 where
   pub places : ℕ

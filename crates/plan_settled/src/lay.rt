@@ -2,6 +2,7 @@
 use crate::copy::copy_numbers;
 use footprint::Limits;
 use plan_record::Record;
+use plan_record::figures::block_of;
 ghost use mathlib.Core.Path.{_≡_};
 ghost use Prim.Native.Nat.{_≤_, _*_, _+_};
 ghost use lib.ListN.{length};
@@ -12,25 +13,14 @@ ghost use Rattle.numbers.specs.Pairs.{flat};
 ghost use Rattle.plan_checks.specs.Early.{Listed};
 ghost use Rattle.plan_checks.specs.Opening.{recordsOf};
 ghost use Rattle.plan_record.specs.Record.{recordOf};
-ghost use Rattle.plan_settled.specs.Settled.{Layable, Block};
-
-// The container's block, 0 where its log is above 63.
-pub fn block_of(limits: Limits) -> u64
-    ensures { λ r. ⌜ Block limits r ⌝ }
-{
-    let log2 = limits.log2_block;
-    if log2 >= 64 {
-        return 0;
-    }
-    1u64 << log2
-}
+ghost use Rattle.plan_settled.specs.Settled.{Layable};
 
 // Fills s with both header blocks of a record and its committed extents.
 fn lay(limits: Limits, one: Record, own: &[u64], s: &mut [u64])
     requires { ⌜ (limits .«log2_block» ≤ 16) × (length (now s) ≡ 2 * (one .entry .«extent_count» + 2)) × (2 * one .entry .«extent_count» ≤ length (now own)) ⌝ }
     ensures { λ _. ⌜ now (s .exit) ≡ flat (footprint limits (regionFrom (recordOf one) (now (own .entry)))) ⌝ }
 {
-    let block = block_of(limits);
+    let block = block_of(limits.log2_block);
     let entry = one.entry;
     let n = 2 * (entry.extent_count as usize);
     s[0] = entry.header_a;

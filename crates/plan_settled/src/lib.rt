@@ -6,7 +6,6 @@ mod marks;
 
 pub use copy::copy_numbers;
 use footprint::Limits;
-pub use lay::block_of;
 use marks::marked;
 use plan_checks::early_refusal;
 use plan_record::Record;

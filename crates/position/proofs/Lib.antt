@@ -1,2 +1,4 @@
 pub mod Running
 pub mod Position
+pub mod Driving
+pub mod Example

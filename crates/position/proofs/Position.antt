@@ -1,19 +1,26 @@
 -- The position theorem: what every list of calls leaves is the model's, and demand 3 holds of the model.
-use Prim.Native.Nat.{ℕ, _+_, _-_}
+use Prim.Native.Nat.{ℕ, _+_}
 use mathlib.Core.List.{List, [], _∷_}
 use mathlib.Core.Option.{Option, some, none}
 use mathlib.Core.Path.{_≡_, refl, ap, sym, subst, _∙_}
 use native.Mathlib.Omega.{arith}
 use Rattle.model.specs.Calls.{Call, create, grow, publish, drop, cap, locate, answerTo, next, worldAfter, answersAlong}
-use Rattle.model.specs.Demand as model
 use Rattle.model.specs.Open.{openRefusal, opened}
 use Rattle.model.specs.World.{World, held, free, physical, logical}
+use Rattle.numbers.specs.Refusals.{Answer, accepted, answer}
+use Rattle.plan_record.specs.Plan.{replyOf}
+use Rattle.plan_record.specs.declared.Outcome.{Outcome}
+use Rattle.plan_record.specs.declared.Reply.{Reply}
+use Rattle.plan_record.specs.declared.Reply.the-variants.{Done, At, Refused}
+use Rattle.position.specs.Position.{Room, RoomFor, Rooms, After, Position}
+use Rattle.position.specs.Runs.{Held, Loan, Loans, Arguments, OpensWith, openingWith, withPlan, Run, Locates}
 use Rattle.model.proofs.Demand.{sound-demand}
 use Rattle.model.proofs.Opening.{opened-sound}
 use Rattle.model.proofs.Sound.{Sound}
 use Rattle.model.proofs.Steps.{next-sound, after-sound}
-use Rattle.numbers.specs.Refusals.{Answer, accepted, refused, answer}
 use Rattle.numbers.proofs.Answers.{same-value, answer-value, accepted-is}
+use Rattle.position.proofs.Running.{worldIn, Ran, ran}
+use Rattle.model.specs.Demand as model
 use Rattle.plan.proofs.cap.Met as cap-met
 use Rattle.plan.proofs.create.Met as create-met
 use Rattle.plan.proofs.drop.Met as drop-met
@@ -25,13 +32,6 @@ use Rattle.plan_record.proofs.Plan.free.Met as free-met
 use Rattle.plan_record.proofs.Plan.held.Met as held-met
 use Rattle.plan_record.proofs.Plan.logical.Met as logical-met
 use Rattle.plan_record.proofs.Plan.physical.Met as physical-met
-use Rattle.plan_record.specs.Plan.{replyOf}
-use Rattle.plan_record.specs.declared.Outcome.{Outcome}
-use Rattle.plan_record.specs.declared.Reply.{Reply}
-use Rattle.plan_record.specs.declared.Reply.the-variants.{Done, At, Refused}
-use Rattle.position.proofs.Running.{ValidIn, worldIn, Ran, ran}
-use Rattle.position.specs.Position.{Room, RoomFor, Rooms, After, Position}
-use Rattle.position.specs.Runs.{Held, Loan, Loans, Arguments, OpensWith, openingWith, withPlan, Run, Locates}
 
 -- ---- room
 
@@ -105,9 +105,12 @@ done-read Done e = refl
 done-read (At a) e = let z : _≡_ {A = ℕ} 0 1 = cc in absurd (omega arith)
 done-read (Refused n) e = let z : _≡_ {A = ℕ} 0 1 = cc in absurd (omega arith)
 
+pub done-at : (r : Reply) {n : ℕ} → replyOf r ≡ answer n none → n ≡ 0 → r ≡ Done
+done-at r e z = done-read r (e ∙ answer-value _ none z)
+
 module _ (l : Loans) (a b : Loan) (o : Arguments) (s t : List ℕ) (h k : Held) (r : Outcome) (x : OpensWith l a b o s h r t k) where
   done : openRefusal (openingWith o s h) ≡ 0 → r .reply ≡ Done
-  done z = done-read (r .reply) (x .answer ∙ answer-value _ none z)
+  done z = done-at (r .reply) (x .answer) z
 
   only : r .reply ≡ Done → openRefusal (openingWith o s h) ≡ 0
   only e = accepted-is _ none none (sym (x .answer) ∙ ap replyOf e) .0

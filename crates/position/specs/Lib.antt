@@ -1,2 +1,4 @@
 pub mod Runs
 pub mod Position
+pub mod Caller
+pub mod Example

@@ -6,6 +6,7 @@ use borrow.Author.Needs.{needs}
 use Rattle.numbers.specs.Sums.{stop}
 use Rattle.plan_open.proofs.Looping.{Using, use-begins, use-room, use-on, use-ends}
 use Rattle.plan_open.proofs.accounts.list_usage.Statement.{statement}
+use Rattle.plan_record.proofs.Holding.{block-small}
 use Rattle.plan_settled.proofs.Filling.{fill-size}
 use Rattle.plan_open.proofs.accounts.list_usage.Tie as tie
 
@@ -76,7 +77,7 @@ same-length-3 : tie.Need-same-length-3 Inv-loop μ-loop
 same-length-3 c = fill-size (c .before .loop .inv .in-physical)
 
 returns : tie.Need-returns Inv-loop μ-loop
-returns c = use-ends (c .before .loop .inv) _ (c .before .before .add-stop .ensures ∙ ap (λ (b : ℕ). stop (b + b)) (c .before .before .before .block-of .ensures .small (omega (arith, c .before .before .before .before .before .before .before .pre .0)))) (c .loop-test .left)
+returns c = use-ends (c .before .loop .inv) _ (c .before .before .add-stop .ensures ∙ ap (λ (b : ℕ). stop (b + b)) (block-small (c .before .before .before .block-of .ensures .0) (omega (arith, c .before .before .before .before .before .before .before .pre .0)))) (c .loop-test .left)
 
 pub list-usage-spec : {M : Type 1} → statement M
 list-usage-spec =

@@ -3,6 +3,7 @@ use native.Mathlib.Omega.{arith}
 use lib.ListN.{length-set}
 use borrow.Author.Needs.{needs}
 use Rattle.plan_record.specs.Record.{recordOf}
+use Rattle.plan_record.proofs.Holding.{block-small}
 use Rattle.plan_settled.proofs.Laying.{lay-room, lay-size, laid}
 use Rattle.plan_settled.proofs.lay.lay.Statement.{statement}
 use Rattle.plan_settled.proofs.lay.lay.Tie as tie
@@ -56,7 +57,7 @@ same-length : tie.Need-same-length
 same-length c = lay-size (c .before .before .before .before .before .before .before .before .before .before .args .limits) (recordOf (c .before .before .before .before .before .before .before .before .before .before .args .one)) (c .before .before .before .before .before .before .before .before .before .before .args .own .now) (c .before .before .before .before .before .before .before .block-of .result) (c .before .before .before .before .before .before .before .before .before .before .args .s .now) (c .before .before .copy-numbers .last .1 .0) (c .before .before .copy-numbers .kept .1 .0)
 
 returns : tie.Need-returns
-returns c = laid (c .before .before .before .before .before .before .before .before .before .before .args .limits) (recordOf (c .before .before .before .before .before .before .before .before .before .before .args .one)) (c .before .before .before .before .before .before .before .before .before .before .args .own .now) (c .before .before .before .before .before .before .before .block-of .result) (c .before .before .before .before .before .before .before .before .before .before .args .s .now) _ (c .before .before .before .before .before .before .before .block-of .ensures .small (omega (arith, c .before .before .before .before .before .before .before .before .before .before .pre .0))) (c .before .before .before .before .before .before .before .before .before .before .pre .1) (c .before .before .before .before .before .before .before .before .before .before .pre .2) (c .before .before .copy-numbers .ensures)
+returns c = laid (c .before .before .before .before .before .before .before .before .before .before .args .limits) (recordOf (c .before .before .before .before .before .before .before .before .before .before .args .one)) (c .before .before .before .before .before .before .before .before .before .before .args .own .now) (c .before .before .before .before .before .before .before .block-of .result) (c .before .before .before .before .before .before .before .before .before .before .args .s .now) _ (block-small (c .before .before .before .before .before .before .before .block-of .ensures .0) (omega (arith, c .before .before .before .before .before .before .before .before .before .before .pre .0))) (c .before .before .before .before .before .before .before .before .before .before .pre .1) (c .before .before .before .before .before .before .before .before .before .before .pre .2) (c .before .before .copy-numbers .ensures)
 
 pub lay-spec : {M : Type 1} → statement M
 lay-spec =
