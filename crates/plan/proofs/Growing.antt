@@ -63,7 +63,7 @@ use Rattle.regionmap.specs.declared.Mapped.the-variants as mapped
 -- a refused grow leaves the lists
 module _ (p : Plan) (id : ℕ) (xs ss fs : List ℕ) where
   pub grows-refused : {n : ℕ} → listsShort xs ss fs ≡ false → Called p (model.grow id) xs ss fs xs ss fs (refusing p n) → Grows p (model.grow id) id xs ss fs xs ss fs (refusing p n)
-  grows-refused h k = record { called = k; short = λ z. clash z h; extents = inl refl; starts = inl refl; files = inl refl }
+  grows-refused h k = record { called = k; short = λ z. clash z h; extents = inl refl; starts = inl refl; files = inl refl; odd = refl }
 
   pub grows-short : listsShort xs ss fs ≡ true → Grows p (model.grow id) id xs ss fs xs ss fs (refusing p 1)
   grows-short h =
@@ -73,6 +73,7 @@ module _ (p : Plan) (id : ℕ) (xs ss fs : List ℕ) where
         extents = inl refl;
         starts = inl refl;
         files = inl refl;
+        odd = refl;
       }
 
 module _ (p : Plan) (xs ss fs : List ℕ) (id i m : ℕ) (e : i ≡ spotOf p id) (a : m ≡ length (regionsOf p)) where
@@ -363,4 +364,5 @@ module _ (p : Plan) (xs ss fs : List ℕ) (id i m : ℕ) (e : i ≡ spotOf p id)
                             extents = subst (λ (y : ℕ). OnePlace y (pairs xs) (pairs xs′)) k extents-one;
                             starts = subst (λ (y : ℕ). OnePlace y ss ss′) k starts-one;
                             files = subst (λ (y : ℕ). OnePlace y fs fs′) k files-one;
+                            odd = u .behind;
                           }

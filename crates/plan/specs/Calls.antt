@@ -5,7 +5,7 @@ use mathlib.Core.List.{List}
 use mathlib.Core.Logic.{_⊎_}
 use mathlib.Core.Path.{_≡_}
 use lib.Dec.{ltb}
-use lib.ListN.{length, set, getD}
+use lib.ListN.{length, drop, set, getD}
 use Rattle.model.specs.Calls.{Call, locate, answerTo, next}
 use Rattle.numbers.specs.Pairs.{pairs}
 use Rattle.plan_record.specs.Plan.{Valid, worldOf, replyOf, listsShort, places, spotOf, pastRegion}
@@ -39,13 +39,16 @@ pub record Leaves (p : Plan) (c : Call) (xs₀ ss₀ fs₀ xs ss fs : List ℕ) 
 abbrev pub OnePlace : {A : Type 0} → ℕ → List A → List A → Type 0
 OnePlace {A} row l₀ l = (l ≡ l₀) ⊎ ((k : ℕ) × (v : A) × (k < 60) × (l ≡ set l₀ (60 * row + k) v))
 
--- Of grow. The row is that of the region in the plan handed back.
+-- Of grow, on every record: the row is that of the region in the plan handed back, so that slots behind the 64 rows keep their content
+-- (`place-behind` of proofs/Slots).
 pub record Grows (p : Plan) (c : Call) (id : ℕ) (xs₀ ss₀ fs₀ xs ss fs : List ℕ) (r : Outcome) : Type 0 where
   pub called : Called p c xs₀ ss₀ fs₀ xs ss fs r
   pub short : listsShort xs₀ ss₀ fs₀ ≡ true → r .reply ≡ Refused 1
   pub extents : OnePlace (min (getD (r .plan .regions) (spotOf p id) pastRegion .row) 63) (pairs xs₀) (pairs xs)
   pub starts : OnePlace (min (getD (r .plan .regions) (spotOf p id) pastRegion .row) 63) ss₀ ss
   pub files : OnePlace (min (getD (r .plan .regions) (spotOf p id) pastRegion .row) 63) fs₀ fs
+  -- the last number of an odd list of extents
+  pub odd : drop (2 * length (pairs xs₀)) xs ≡ drop (2 * length (pairs xs₀)) xs₀
 
 -- Of locate, which reads the starts and the file offsets alone.
 pub record Locates (p : Plan) (id pos n : ℕ) (ss fs : List ℕ) (r : Reply) : Type 0 where

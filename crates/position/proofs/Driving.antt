@@ -10,25 +10,25 @@ use Rattle.plan_record.specs.Plan.{replyOf}
 use Rattle.plan_record.specs.declared.Outcome.{Outcome}
 use Rattle.plan_record.specs.declared.Reply.{Reply}
 use Rattle.position.specs.Caller.{Drives, drivenCalls}
-use Rattle.position.specs.Runs.{Held}
+use Rattle.position.specs.Runs.{Whole}
 use Rattle.position.proofs.Position.{done-at}
 use Rattle.position.proofs.Running.{Ran, went, left, stood}
 use Rattle.plan.specs.Calls as calls
 
 module _ (o : Opening) (id tag : ℕ) (name : List ℕ) (len pos : ℕ) (xs₀ ss₀ fs₀ xs₁ ss₁ fs₁ xs₂ ss₂ fs₂ xs₃ ss₃ fs₃ xs₄ ss₄ fs₄ : List ℕ) (a b c d e : Outcome) (f : Reply) where
-  abbrev h₁ : Held
+  abbrev h₁ : Whole
   h₁ = record { plan = a .plan; extents = xs₁; starts = ss₁; files = fs₁ }
 
-  abbrev h₂ : Held
+  abbrev h₂ : Whole
   h₂ = record { plan = b .plan; extents = xs₂; starts = ss₂; files = fs₂ }
 
-  abbrev h₃ : Held
+  abbrev h₃ : Whole
   h₃ = record { plan = c .plan; extents = xs₃; starts = ss₃; files = fs₃ }
 
-  abbrev h₄ : Held
+  abbrev h₄ : Whole
   h₄ = record { plan = d .plan; extents = xs₃; starts = ss₃; files = fs₃ }
 
-  abbrev h₅ : Held
+  abbrev h₅ : Whole
   h₅ = record { plan = e .plan; extents = xs₄; starts = ss₄; files = fs₄ }
 
   pub drives : Opens o xs₀ xs₁ ss₀ ss₁ fs₀ fs₁ a

@@ -13,7 +13,7 @@ use Rattle.plan_record.specs.declared.Outcome.{Outcome}
 use Rattle.plan_record.specs.declared.Reply.{Reply}
 use Rattle.plan_record.specs.declared.Reply.the-variants.{Done, At, Refused}
 use Rattle.position.specs.Position.{Room, RoomFor, Rooms, After, Position}
-use Rattle.position.specs.Runs.{Held, Loan, Loans, Arguments, OpensWith, openingWith, withPlan, Run, Locates}
+use Rattle.position.specs.Runs.{Whole, Loan, Loans, Arguments, OpensWith, openingWith, withPlan, Run, Locates}
 use Rattle.model.proofs.Demand.{sound-demand}
 use Rattle.model.proofs.Opening.{opened-sound}
 use Rattle.model.proofs.Sound.{Sound}
@@ -53,7 +53,7 @@ rooms-along w s (c ∷ cs) = (room-for w s c, rooms-along (next w c) (next-sound
 
 -- ---- after a list of calls
 
-module _ (w₀ : World) (s₀ : Sound w₀) (cs : List Call) (ns : List (Answer (Option ℕ))) (h : Held) (g : Ran w₀ cs ns h) where
+module _ (w₀ : World) (s₀ : Sound w₀) (cs : List Call) (ns : List (Answer (Option ℕ))) (h : Whole) (g : Ran w₀ cs ns h) where
   abbrev w : World
   w = worldAfter w₀ cs
 
@@ -108,14 +108,14 @@ done-read (Refused n) e = let z : _≡_ {A = ℕ} 0 1 = cc in absurd (omega arit
 pub done-at : (r : Reply) {n : ℕ} → replyOf r ≡ answer n none → n ≡ 0 → r ≡ Done
 done-at r e z = done-read r (e ∙ answer-value _ none z)
 
-module _ (l : Loans) (a b : Loan) (o : Arguments) (s t : List ℕ) (h k : Held) (r : Outcome) (x : OpensWith l a b o s h r t k) where
+module _ (l : Loans) (a b : Loan) (o : Arguments) (s t : List ℕ) (h k : Whole) (r : Outcome) (x : OpensWith l a b o s h r t k) where
   done : openRefusal (openingWith o s h) ≡ 0 → r .reply ≡ Done
   done z = done-at (r .reply) (x .answer) z
 
   only : r .reply ≡ Done → openRefusal (openingWith o s h) ≡ 0
   only e = accepted-is _ none none (sym (x .answer) ∙ ap replyOf e) .0
 
-  claims : openRefusal (openingWith o s h) ≡ 0 → (cs : List Call) (ns : List (Answer (Option ℕ))) (j : Held) → Run (withPlan k (r .plan)) cs ns j
+  claims : openRefusal (openingWith o s h) ≡ 0 → (cs : List Call) (ns : List (Answer (Option ℕ))) (j : Whole) → Run (withPlan k (r .plan)) cs ns j
       → After (opened (openingWith o s h)) cs ns j (worldAfter (opened (openingWith o s h)) cs)
   claims z cs ns j c =
       let d = done z in

@@ -8,7 +8,7 @@ use Rattle.model.specs.Opens.{limits, record1, record2, two}
 use Rattle.plan_record.specs.Plan.{blankPlan}
 use Rattle.plan_record.specs.Record.{blankRecord}
 use Rattle.plan_record.specs.declared.Record.{Record}
-use Rattle.position.specs.Runs.{Held, Arguments, openingWith}
+use Rattle.position.specs.Runs.{Whole, Arguments, openingWith}
 
 -- A record with its name at the front of 24 bytes.
 abbrev pub file : model.Record → Record
@@ -36,7 +36,7 @@ arguments =
 abbrev pub scratch : List ℕ
 scratch = replicate 128 0
 
-abbrev pub lists : Held
+abbrev pub lists : Whole
 lists = record { plan = blankPlan; extents = replicate 7680 0; starts = replicate 3840 0; files = replicate 3840 0 }
 
 pub record Example : Type 0 where

@@ -30,7 +30,7 @@ use Rattle.plan_record.specs.Plan.{replyOf}
 use Rattle.plan_record.specs.declared.Outcome.{Outcome}
 use Rattle.plan_record.specs.declared.Reply.{Reply}
 use Rattle.plan_record.specs.declared.Reply.the-variants.{Done}
-use Rattle.position.specs.Runs.{Held, Loan, Loans, Arguments, OpensWith, openingWith, withPlan, Run, Locates, HeldTold, FreeTold, PhysicalTold, LogicalTold}
+use Rattle.position.specs.Runs.{Whole, Loan, Loans, Arguments, OpensWith, openingWith, withPlan, Run, Locates, HeldTold, FreeTold, PhysicalTold, LogicalTold}
 
 -- ---- room
 
@@ -61,7 +61,7 @@ Rooms w (c ∷ cs) (a ∷ ns) = RoomFor w c a × Rooms (next w c) cs ns
 -- ---- after a list of calls
 
 -- The list cs, answered by ns, began in the world w₀ and left the plan h; w is the model's world after it.
-pub record After (w₀ : World) (cs : List Call) (ns : List (Answer (Option ℕ))) (h : Held) (w : World) : Type 0 where
+pub record After (w₀ : World) (cs : List Call) (ns : List (Answer (Option ℕ))) (h : Whole) (w : World) : Type 0 where
   -- every answer of the list is the one defined
   pub answers : ns ≡ answersAlong w₀ cs
   -- 1. "every published position is located, at the byte of the region's own extents laid end to end"
@@ -71,7 +71,7 @@ pub record After (w₀ : World) (cs : List Call) (ns : List (Answer (Option ℕ)
       → replyOf r ≡ replyOf s → (id ≡ jd) × (p ≡ q)
   -- 3. "such a byte stays until an accepted drop": over every later list without an accepted drop of the region, the position stays
   -- published and locate gives the same byte
-  pub stays : (l m : Loans) (id p : ℕ) (r s : Reply) (ds : List Call) (ms : List (Answer (Option ℕ))) (k : Held) → Run h ds ms k → Keeps w id ds
+  pub stays : (l m : Loans) (id p : ℕ) (r s : Reply) (ds : List Call) (ms : List (Answer (Option ℕ))) (k : Whole) → Run h ds ms k → Keeps w id ds
       → Published w id p → Locates l h id p 1 r → Locates m k id p 1 s → Published (worldAfter w ds) id p × (replyOf s ≡ replyOf r)
   -- a dropped number is unknown, so that one created again is another region
   pub forgets : (id : ℕ) → known (next w (drop id)) id ≡ false
@@ -101,12 +101,12 @@ pub record Position : Type 2 where
   pub tells-physical : {M : Type 1} → physical-code.statement M
   pub tells-logical : {M : Type 1} → logical-code.statement M
   -- open accepts where the model accepts its arguments, and only there
-  pub accepts : (l : Loans) (a b : Loan) (o : Arguments) (s t : List ℕ) (h k : Held) (r : Outcome) → OpensWith l a b o s h r t k
+  pub accepts : (l : Loans) (a b : Loan) (o : Arguments) (s t : List ℕ) (h k : Whole) (r : Outcome) → OpensWith l a b o s h r t k
       → openRefusal (openingWith o s h) ≡ 0 → r .reply ≡ Done
-  pub only-then : (l : Loans) (a b : Loan) (o : Arguments) (s t : List ℕ) (h k : Held) (r : Outcome) → OpensWith l a b o s h r t k
+  pub only-then : (l : Loans) (a b : Loan) (o : Arguments) (s t : List ℕ) (h k : Whole) (r : Outcome) → OpensWith l a b o s h r t k
       → r .reply ≡ Done → openRefusal (openingWith o s h) ≡ 0
   -- the claim about the list
-  pub claim : (l : Loans) (a b : Loan) (o : Arguments) (s t : List ℕ) (h k : Held) (r : Outcome) → OpensWith l a b o s h r t k
+  pub claim : (l : Loans) (a b : Loan) (o : Arguments) (s t : List ℕ) (h k : Whole) (r : Outcome) → OpensWith l a b o s h r t k
       → openRefusal (openingWith o s h) ≡ 0
-      → (cs : List Call) (ns : List (Answer (Option ℕ))) (j : Held) → Run (withPlan k (r .plan)) cs ns j
+      → (cs : List Call) (ns : List (Answer (Option ℕ))) (j : Whole) → Run (withPlan k (r .plan)) cs ns j
       → After (opened (openingWith o s h)) cs ns j (worldAfter (opened (openingWith o s h)) cs)

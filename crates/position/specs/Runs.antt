@@ -29,8 +29,8 @@ use Rattle.tagspace.specs.declared.Cap.{Cap}
 
 -- ---- a plan
 
--- A plan is its record and the lists that its holder lends to each call.
-pub record Held : Type 0 where
+-- The whole of a plan: its record, and the lists that its holder lends to each call.
+pub record Whole : Type 0 where
   pub plan : Plan
   pub extents : List ℕ
   pub starts : List ℕ
@@ -66,7 +66,7 @@ pub record Arguments : Type 0 where
 
 -- `plan_open::open(limits, records, count, listed, scratch, extents, starts, files)` was called with scratch s and the lists of h, answered
 -- r, and left scratch and the lists as they are in t and k.
-abbrev pub OpensWith : Loans → (listed scratch : Loan) → Arguments → (s : List ℕ) → Held → Outcome → (t : List ℕ) → Held → Type 0
+abbrev pub OpensWith : Loans → (listed scratch : Loan) → Arguments → (s : List ℕ) → Whole → Outcome → (t : List ℕ) → Whole → Type 0
 OpensWith l a b o s h r t k =
     open-reads.Learnt (a .lifetime, (b .lifetime, (l .extents .lifetime, (l .starts .lifetime, (l .files .lifetime, tt))))) (
       o .limits,
@@ -78,11 +78,11 @@ OpensWith l a b o s h r t k =
     )
 
 -- What these arguments say to the model.
-abbrev pub openingWith : Arguments → List ℕ → Held → Opening
+abbrev pub openingWith : Arguments → List ℕ → Whole → Opening
 openingWith o s h = openingOf (o .limits) (o .records) (o .count) (o .listed) s (h .extents) (h .starts) (h .files)
 
 -- `plan::create(plan, extents, starts, files, id, tag, name)` was called with h and answered r, and left the lists as they are in k.
-abbrev pub Creates : Loans → Held → (id tag : ℕ) → List ℕ → Outcome → Held → Type 0
+abbrev pub Creates : Loans → Whole → (id tag : ℕ) → List ℕ → Outcome → Whole → Type 0
 Creates l h id tag name r k =
     create-reads.Learnt (l .extents .lifetime, (l .starts .lifetime, (l .files .lifetime, (l .name .lifetime, tt))))
     (h .plan, (lend (l .extents) (h .extents), (lend (l .starts) (h .starts), (lend (l .files) (h .files), (id, (tag, (lend (l .name) name, tt)))))))
@@ -90,7 +90,7 @@ Creates l h id tag name r k =
     (h .plan, (lend (l .extents) (k .extents), (lend (l .starts) (k .starts), (lend (l .files) (k .files), (id, (tag, (lend (l .name) name, tt)))))))
 
 -- `plan::grow(plan, extents, starts, files, id)`
-abbrev pub Grows : Loans → Held → ℕ → Outcome → Held → Type 0
+abbrev pub Grows : Loans → Whole → ℕ → Outcome → Whole → Type 0
 Grows l h id r k =
     grow-reads.Learnt (l .extents .lifetime, (l .starts .lifetime, (l .files .lifetime, tt)))
     (h .plan, (lend (l .extents) (h .extents), (lend (l .starts) (h .starts), (lend (l .files) (h .files), (id, tt)))))
@@ -98,7 +98,7 @@ Grows l h id r k =
     (h .plan, (lend (l .extents) (k .extents), (lend (l .starts) (k .starts), (lend (l .files) (k .files), (id, tt)))))
 
 -- `plan::drop(plan, extents, starts, files, id)`
-abbrev pub Drops : Loans → Held → ℕ → Outcome → Held → Type 0
+abbrev pub Drops : Loans → Whole → ℕ → Outcome → Whole → Type 0
 Drops l h id r k =
     drop-reads.Learnt (l .extents .lifetime, (l .starts .lifetime, (l .files .lifetime, tt)))
     (h .plan, (lend (l .extents) (h .extents), (lend (l .starts) (h .starts), (lend (l .files) (h .files), (id, tt)))))
@@ -106,14 +106,14 @@ Drops l h id r k =
     (h .plan, (lend (l .extents) (k .extents), (lend (l .starts) (k .starts), (lend (l .files) (k .files), (id, tt)))))
 
 -- `plan::publish(plan, id, len)` and `plan::cap(plan, tag, limit)` take no lists.
-abbrev pub Publishes : Held → (id len : ℕ) → Outcome → Type 0
+abbrev pub Publishes : Whole → (id len : ℕ) → Outcome → Type 0
 Publishes h id len r = publish-reads.Learnt tt (h .plan, (id, (len, tt))) r (h .plan, (id, (len, tt)))
 
-abbrev pub Caps : Held → ℕ → Cap → Outcome → Type 0
+abbrev pub Caps : Whole → ℕ → Cap → Outcome → Type 0
 Caps h tag limit r = cap-reads.Learnt tt (h .plan, (tag, (limit, tt))) r (h .plan, (tag, (limit, tt)))
 
 -- `plan::locate(plan, starts, files, id, pos, n)`
-abbrev pub Locates : Loans → Held → (id pos n : ℕ) → Reply → Type 0
+abbrev pub Locates : Loans → Whole → (id pos n : ℕ) → Reply → Type 0
 Locates l h id pos n r =
     locate-reads.Learnt (l .starts .lifetime, (l .files .lifetime, tt))
     (h .plan, (lend (l .starts) (h .starts), (lend (l .files) (h .files), (id, (pos, (n, tt))))))
@@ -121,54 +121,54 @@ Locates l h id pos n r =
     (h .plan, (lend (l .starts) (h .starts), (lend (l .files) (h .files), (id, (pos, (n, tt))))))
 
 -- The figures: `held(plan)`, `free(plan)`, `physical(plan, tag)` and `logical(plan, tag)`.
-abbrev pub HeldTold : Held → ℕ → Type 0
+abbrev pub HeldTold : Whole → ℕ → Type 0
 HeldTold h r = held-reads.Learnt tt (h .plan, tt) r (h .plan, tt)
 
-abbrev pub FreeTold : Held → ℕ → Type 0
+abbrev pub FreeTold : Whole → ℕ → Type 0
 FreeTold h r = free-reads.Learnt tt (h .plan, tt) r (h .plan, tt)
 
-abbrev pub PhysicalTold : Held → (tag r : ℕ) → Type 0
+abbrev pub PhysicalTold : Whole → (tag r : ℕ) → Type 0
 PhysicalTold h tag r = physical-reads.Learnt tt (h .plan, (tag, tt)) r (h .plan, (tag, tt))
 
-abbrev pub LogicalTold : Held → (tag r : ℕ) → Type 0
+abbrev pub LogicalTold : Whole → (tag r : ℕ) → Type 0
 LogicalTold h tag r = logical-reads.Learnt tt (h .plan, (tag, tt)) r (h .plan, (tag, tt))
 
 -- ---- lists of calls
 
 -- With another plan's record, and the lists as they are.
-abbrev pub withPlan : Held → Plan → Held
+abbrev pub withPlan : Whole → Plan → Whole
 withPlan h p = record { plan = p; extents = h .extents; starts = h .starts; files = h .files }
 
 -- A list of calls and their answers, from h to k: "Each call gets the plan as the last one left it", record and lists.
-pub data Run : Held → List Call → List (Answer (Option ℕ)) → Held → Type 0 where
-  ends : {h : Held} → Run h [] [] h
+pub data Run : Whole → List Call → List (Answer (Option ℕ)) → Whole → Type 0 where
+  ends : {h : Whole} → Run h [] [] h
   creates :
-      {h k : Held} {cs : List Call} {ns : List (Answer (Option ℕ))} (l : Loans) (id tag : ℕ) (name : List ℕ) (r : Outcome) (j : Held) →
+      {h k : Whole} {cs : List Call} {ns : List (Answer (Option ℕ))} (l : Loans) (id tag : ℕ) (name : List ℕ) (r : Outcome) (j : Whole) →
       Creates l h id tag name r j →
       Run (withPlan j (r .plan)) cs ns k →
       Run h (create id tag name ∷ cs) (replyOf (r .reply) ∷ ns) k
   grows :
-      {h k : Held} {cs : List Call} {ns : List (Answer (Option ℕ))} (l : Loans) (id : ℕ) (r : Outcome) (j : Held) →
+      {h k : Whole} {cs : List Call} {ns : List (Answer (Option ℕ))} (l : Loans) (id : ℕ) (r : Outcome) (j : Whole) →
       Grows l h id r j →
       Run (withPlan j (r .plan)) cs ns k →
       Run h (grow id ∷ cs) (replyOf (r .reply) ∷ ns) k
   publishes :
-      {h k : Held} {cs : List Call} {ns : List (Answer (Option ℕ))} (id len : ℕ) (r : Outcome) →
+      {h k : Whole} {cs : List Call} {ns : List (Answer (Option ℕ))} (id len : ℕ) (r : Outcome) →
       Publishes h id len r →
       Run (withPlan h (r .plan)) cs ns k →
       Run h (publish id len ∷ cs) (replyOf (r .reply) ∷ ns) k
   drops :
-      {h k : Held} {cs : List Call} {ns : List (Answer (Option ℕ))} (l : Loans) (id : ℕ) (r : Outcome) (j : Held) →
+      {h k : Whole} {cs : List Call} {ns : List (Answer (Option ℕ))} (l : Loans) (id : ℕ) (r : Outcome) (j : Whole) →
       Drops l h id r j →
       Run (withPlan j (r .plan)) cs ns k →
       Run h (drop id ∷ cs) (replyOf (r .reply) ∷ ns) k
   caps :
-      {h k : Held} {cs : List Call} {ns : List (Answer (Option ℕ))} (tag : ℕ) (limit : Cap) (r : Outcome) →
+      {h k : Whole} {cs : List Call} {ns : List (Answer (Option ℕ))} (tag : ℕ) (limit : Cap) (r : Outcome) →
       Caps h tag limit r →
       Run (withPlan h (r .plan)) cs ns k →
       Run h (cap tag limit ∷ cs) (replyOf (r .reply) ∷ ns) k
   locates :
-      {h k : Held} {cs : List Call} {ns : List (Answer (Option ℕ))} (l : Loans) (id pos n : ℕ) (r : Reply) →
+      {h k : Whole} {cs : List Call} {ns : List (Answer (Option ℕ))} (l : Loans) (id pos n : ℕ) (r : Reply) →
       Locates l h id pos n r →
       Run h cs ns k →
       Run h (locate id pos n ∷ cs) (replyOf r ∷ ns) k
