@@ -6,6 +6,7 @@ pub mod Moving
 pub mod Dropping
 pub mod Stepping
 pub mod Seeking
+pub mod Asking
 pub mod Creating
 pub mod Slots
 pub mod Growing

@@ -1,14 +1,19 @@
 -- What the inner functions of the calls compute.
-use Prim.Native.Nat.{ℕ, suc, _+_, _-_, _*_, _<_, min, max}
+use Prim.Native.Nat.{ℕ, suc, _+_, _-_, _*_, _≤_, _<_, min, max}
 use mathlib.Core.Bool.{Bool, true, false}
 use mathlib.Core.List.{List, _∷_, _++_}
 use mathlib.Core.Option.{none, some}
 use mathlib.Core.Path.{_≡_}
-use lib.ListN.{length, take, drop, getD}
+use lib.ListN.{length, take, drop, set, getD}
+use Rattle.accounting.specs.declared.Accounting.{Accounting}
 use Rattle.footprint.specs.declared.RegionKind.the-variants.{Append}
+use Rattle.model.specs.Calls.{step, createTests, growTests}
 use Rattle.model.specs.Span.{leastFree}
-use Rattle.numbers.specs.Sums.{stop}
-use Rattle.plan_record.specs.Plan.{regionsOf, worldOf, Valid, pastRegion}
+use Rattle.numbers.specs.Refusals.{first}
+use Rattle.numbers.specs.Sums.{top, stop}
+use Rattle.plan_record.specs.Inner.{blockIn}
+use Rattle.plan_record.specs.Record.{nameOf}
+use Rattle.plan_record.specs.Plan.{regionsOf, worldOf, Valid, spotOf, pastRegion}
 use Rattle.plan_record.specs.declared.Outcome.{Outcome}
 use Rattle.plan_record.specs.declared.Plan.{Plan}
 use Rattle.plan_record.specs.declared.Region.{Region}
@@ -88,3 +93,36 @@ fresh row id tag bytes len log2 a block seq =
       row = row;
       map = record { first = 0; len = 0; capacity = 0; count = 0; room = 60 };
     }
+
+-- What the tests of create tell that come before the one for room, of a valid plan; and what they have shown of any record where none failed.
+pub record CreateTested (p : Plan) (id tag : ℕ) (name : List ℕ) (n : ℕ) : Type 0 where
+  pub told : (xs ss fs : List ℕ) → Valid p xs ss fs → first (createTests (worldOf p xs) id tag name) ≡ n
+  pub short : n ≡ 0 → length name ≤ 24
+  pub few : n ≡ 0 → length (regionsOf p) < 64
+  pub below : n ≡ 0 → p .last ≡ top → ⊥
+
+-- Of grow, for the region at i.
+pub record GrowTested (p : Plan) (i n : ℕ) : Type 0 where
+  pub told : (xs ss fs : List ℕ) → Valid p xs ss fs → (id : ℕ) → i ≡ spotOf p id → first (growTests (worldOf p xs) id) ≡ n
+  pub few : n ≡ 0 → getD (p .regions) i pastRegion .«extent_count» < 60
+
+-- A plan with a region more, and the accounts that count it.
+abbrev pub withNew : Plan → Region → Accounting → Plan
+withNew p g a =
+    record {
+      limits = p .limits;
+      last = p .last + 1;
+      count = length (regionsOf p) + 1;
+      regions = set (p .regions) (length (regionsOf p)) g;
+      accounts = a;
+    }
+
+-- The bytes of the next extent of the region at i.
+abbrev pub lenAt : Plan → ℕ → ℕ
+lenAt p i = step (getD (p .regions) i pastRegion .«extent_count») * blockIn p
+
+-- What `add_region` makes, with some bytes whose front is the name.
+pub record Adds (p : Plan) (id tag : ℕ) (name : List ℕ) (at : ℕ) (a : Accounting) (r : Plan) : Type 0 where
+  pub bytes : List ℕ
+  pub named : nameOf bytes (length name) ≡ name
+  pub is : r ≡ withNew p (fresh (getD (p .regions) (length (regionsOf p)) pastRegion .row) id tag bytes (length name) (p .limits .«log2_block») at (blockIn p) (p .last + 1)) a

@@ -1,4 +1,5 @@
 // What the calls on a plan are made of.
+use accounting::Accounting;
 use footprint::RegionKind;
 use freemap::Fit;
 use numbers::add_stop;
@@ -6,6 +7,8 @@ use plan_record::Outcome;
 use plan_record::Plan;
 use plan_record::Region;
 use plan_record::Reply;
+use plan_record::figures::block_of;
+use plan_record::names::name_bytes;
 use regionmap::Located;
 use regionmap::RegionMap;
 ghost use mathlib.Core.Bool.{_||_};
@@ -13,11 +16,12 @@ ghost use mathlib.Core.Path.{_≡_};
 ghost use Prim.Native.Nat.{_<_, _≤_, _/_, min, max};
 ghost use lib.Dec.{ltb, eqb};
 ghost use lib.ListN.{length};
+ghost use Rattle.numbers.specs.Sums.{top};
 ghost use Rattle.plan_record.specs.Plan.{regionsOf};
 ghost use Rattle.footprint.specs.Footprint.{kindCode};
 ghost use Rattle.footprint.specs.declared.RegionKind.the-variants.{Slot};
 ghost use Rattle.model.specs.Calls.{step};
-ghost use Rattle.plan.specs.Inner.{told, refusing, rotated, Seeks, stretched, fresh};
+ghost use Rattle.plan.specs.Inner.{told, refusing, rotated, Seeks, stretched, fresh, CreateTested, GrowTested, Adds, lenAt};
 
 // How many blocks an extent has, by how many there are already: it doubles with every second one.
 const STEPS: [u64; 24] = [
@@ -210,5 +214,90 @@ pub(crate) fn rotate(mut plan: Plan, i: usize) -> Plan
     }
     plan.regions[last] = gone;
     plan.count = last;
+    plan
+}
+
+// The refusal of create before room is looked for; 0 where there is none.
+pub(crate) fn create_refusal(plan: Plan, id: u64, tag: u32, name: &[u8]) -> u64
+    ensures { λ r. ⌜ CreateTested plan id tag (now (name .entry)) r ⌝ }
+{
+    if name.len() > 24 {
+        return 1;
+    }
+    let count = plan.counted();
+    if plan.find(id) < count {
+        return 14;
+    }
+    if plan.named(name) {
+        return 18;
+    }
+    if count >= 64 {
+        return 19;
+    }
+    let accounts = plan.accounts;
+    let asked = accounts.fits(tag, 2 * block_of(plan.limits.log2_block));
+    if asked.refusal != 0 {
+        return 19;
+    }
+    if plan.last == 0xffff_ffff_ffff_ffff {
+        return 20;
+    }
+    if !asked.fits {
+        return 21;
+    }
+    0
+}
+
+// The refusal to grow the region at place i before room is looked for; 0 where there is none.
+pub(crate) fn grow_refusal(plan: Plan, i: usize, len: u64) -> u64
+    requires { ⌜ (i < length (regionsOf plan)) × (len ≡ lenAt plan i) ⌝ }
+    ensures { λ r. ⌜ GrowTested plan i r ⌝ }
+{
+    let region = plan.regions[i];
+    let kind = region.kind;
+    if is_slot(kind) {
+        return 17;
+    }
+    if region.extent_count >= 60 {
+        return 19;
+    }
+    let accounts = plan.accounts;
+    let asked = accounts.fits(region.tag, len);
+    if !asked.fits {
+        return 21;
+    }
+    0
+}
+
+// The plan with a region more that stands in the next free row, its header blocks at the byte at.
+pub(crate) fn add_region(
+    mut plan: Plan,
+    id: u64,
+    tag: u32,
+    name: &[u8],
+    at: u64,
+    accounts: Accounting,
+) -> Plan
+    requires { ⌜ (length (regionsOf plan) < 64) × (plan .last < top) × (length (now name) ≤ 24) ⌝ }
+    ensures { λ r. ⌜ Adds plan id tag (now (name .entry)) at accounts r ⌝ }
+{
+    let count = plan.counted();
+    let row = plan.regions[count].row;
+    let bytes = name_bytes(name);
+    let seq = plan.last + 1;
+    plan.regions[count] = make(
+        row,
+        id,
+        tag,
+        bytes,
+        name.len() as u8,
+        plan.limits.log2_block,
+        at,
+        block_of(plan.limits.log2_block),
+        seq,
+    );
+    plan.count = count + 1;
+    plan.last = seq;
+    plan.accounts = accounts;
     plan
 }

@@ -2,9 +2,10 @@
 // last call left them.
 mod inner;
 
-use inner::is_slot;
+use inner::add_region;
+use inner::create_refusal;
+use inner::grow_refusal;
 use inner::lists_short;
-use inner::make;
 use inner::refuse;
 use inner::rotate;
 use inner::seek;
@@ -17,7 +18,6 @@ use plan_record::Outcome;
 use plan_record::Plan;
 use plan_record::Reply;
 use plan_record::figures::block_of;
-use plan_record::names::name_bytes;
 use regionmap::Mapped;
 use sort::pair::Pair;
 use sort::pair::put_pair;
@@ -28,7 +28,7 @@ ghost use Rattle.plan.specs.Calls.{Changes, Leaves, Grows, Locates};
 
 // Creates a region with no extents; its two header blocks stand at the byte that is answered.
 pub fn create(
-    mut plan: Plan,
+    plan: Plan,
     extents: &mut [u64],
     starts: &mut [u64],
     files: &mut [u64],
@@ -41,56 +41,24 @@ pub fn create(
     if lists_short(extents.len(), starts.len(), files.len()) {
         return refuse(plan, 1);
     }
-    if name.len() > 24 {
-        return refuse(plan, 1);
+    let refusal = create_refusal(plan, id, tag, name);
+    if refusal != 0 {
+        return refuse(plan, refusal);
     }
-    let count = plan.counted();
-    if plan.find(id) < count {
-        return refuse(plan, 14);
-    }
-    if plan.named(name) {
-        return refuse(plan, 18);
-    }
-    if count >= 64 {
-        return refuse(plan, 19);
-    }
-    let block = block_of(plan.limits.log2_block);
-    let accounts = plan.accounts;
-    let posted = accounts.add_usage(tag, 0, 2 * block);
-    if posted.refusal != 0 {
-        return refuse(plan, 19);
-    }
-    if plan.last == 0xffff_ffff_ffff_ffff {
-        return refuse(plan, 20);
-    }
-    if !accounts.row(tag).fits(2 * block) {
-        return refuse(plan, 21);
-    }
-    let room = seek(plan, 2 * block, extents);
+    let two = 2 * block_of(plan.limits.log2_block);
+    let room = seek(plan, two, extents);
     if !room.found {
         return refuse(plan, 22);
     }
-    let row = plan.regions[count].row;
-    let bytes = name_bytes(name);
-    let seq = plan.last + 1;
-    plan.regions[count] = make(
-        row,
-        id,
-        tag,
-        bytes,
-        name.len() as u8,
-        plan.limits.log2_block,
-        room.at,
-        block,
-        seq,
-    );
-    plan.count = count + 1;
-    plan.last = seq;
+    let accounts = plan.accounts;
+    let posted = accounts.add_usage(tag, 0, two);
+    if posted.refusal != 0 {
+        return refuse(plan, posted.refusal);
+    }
     let counted = posted.accounts;
-    plan.accounts = counted;
     Outcome {
         reply: Reply::At(room.at),
-        plan,
+        plan: add_region(plan, id, tag, name, room.at, counted),
     }
 }
 
@@ -112,23 +80,17 @@ pub fn grow(
         return refuse(plan, 16);
     }
     let region = plan.regions[i];
-    let kind = region.kind;
-    if is_slot(kind) {
-        return refuse(plan, 17);
-    }
     let n = region.extent_count;
-    if n >= 60 {
-        return refuse(plan, 19);
-    }
     let len = step_at(n) * block_of(plan.limits.log2_block);
-    let accounts = plan.accounts;
-    if !accounts.row(region.tag).fits(len) {
-        return refuse(plan, 21);
+    let refusal = grow_refusal(plan, i, len);
+    if refusal != 0 {
+        return refuse(plan, refusal);
     }
     let room = seek(plan, len, extents);
     if !room.found {
         return refuse(plan, 22);
     }
+    let accounts = plan.accounts;
     let posted = accounts.add_usage(region.tag, 0, len);
     if posted.refusal != 0 {
         return refuse(plan, posted.refusal);

@@ -16,7 +16,12 @@ counted-requires : tie.Need-counted-requires
 counted-requires c κs = search needs
 
 returns-3 : tie.Need-returns-3
-returns-3 c = locate-unknown _ _ _ _ _ _ (c .before .before .before .before .if1 .left) (c .before .before .before .if2 .left) _ (c .before .before .find .ensures) _ (c .before .counted .ensures .0) (c .if3 .taken)
+returns-3 c =
+    let s1 = c .before in
+    let s2 = s1 .before in
+    let s3 = s2 .before in
+    let s4 = s3 .before in
+    locate-unknown _ _ _ _ _ _ (s4 .if1 .left) (s3 .if2 .left) _ (s2 .find .ensures) _ (s1 .counted .ensures .0) (c .if3 .taken)
 
 mul-region : tie.Need-mul-region
 mul-region c = search needs
@@ -64,7 +69,15 @@ tell-requires : tie.Need-tell-requires
 tell-requires c κs = search needs
 
 returns-4 : tie.Need-returns-4
-returns-4 c = rw (c .tell .ensures) (locate-told _ _ _ _ _ _ (c .before .before .before .before .before .before .before .before .before .before .before .if1 .left) (c .before .before .before .before .before .before .before .before .before .before .if2 .left) _ (c .before .before .before .before .before .before .before .before .before .find .ensures) _ (c .before .before .before .before .before .before .before .before .counted .ensures .0) _ _ (c .before .before .before .before .before .before .before .if3 .left) (c .before .before .before .before .before .own-row .ensures) (c .before .locate .ensures))
+returns-4 c =
+    let s1 = c .before in
+    let s5 = s1 .before .before .before .before in
+    let s7 = s5 .before .before in
+    let s8 = s7 .before in
+    let s9 = s8 .before in
+    let s10 = s9 .before in
+    let s11 = s10 .before in
+    rw (c .tell .ensures) (locate-told _ _ _ _ _ _ (s11 .if1 .left) (s10 .if2 .left) _ (s9 .find .ensures) _ (s8 .counted .ensures .0) _ _ (s7 .if3 .left) (s5 .own-row .ensures) (s1 .locate .ensures))
 
 pub locate-spec : {M : Type 1} → statement M
 locate-spec =

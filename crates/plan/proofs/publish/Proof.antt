@@ -13,7 +13,12 @@ refuse-requires : tie.Need-refuse-requires
 refuse-requires c κs = search needs
 
 returns : tie.Need-returns
-returns c = rw (c .refuse .ensures) (publish-unknown (c .before .before .before .before .args .t1) _ _ _ _ (c .before .before .before .find .ensures) (c .before .before .counted .ensures .0) (c .before .if1 .taken))
+returns c =
+    let s1 = c .before in
+    let s2 = s1 .before in
+    let s3 = s2 .before in
+    let s4 = s3 .before in
+    rw (c .refuse .ensures) (publish-unknown (s4 .args .t1) _ _ _ _ (s3 .find .ensures) (s2 .counted .ensures .0) (s1 .if1 .taken))
 
 mul-region : tie.Need-mul-region
 mul-region c = search needs
@@ -31,7 +36,14 @@ refuse-requires-2 : tie.Need-refuse-requires-2
 refuse-requires-2 c κs = search needs
 
 returns-2 : tie.Need-returns-2
-returns-2 c = rw (c .refuse2 .ensures) (publish-odd (c .before .before .before .before .before .before .before .args .t1) _ _ _ _ (c .before .before .before .before .before .before .find .ensures) (c .before .before .before .before .before .counted .ensures .0) (c .before .before .before .before .if1 .left) _ (c .before .before .block-of .ensures .0) (c .before .if2 .taken))
+returns-2 c =
+    let s1 = c .before in
+    let s2 = s1 .before in
+    let s4 = s2 .before .before in
+    let s5 = s4 .before in
+    let s6 = s5 .before in
+    let s7 = s6 .before in
+    rw (c .refuse2 .ensures) (publish-odd (s7 .args .t1) _ _ _ _ (s6 .find .ensures) (s5 .counted .ensures .0) (s4 .if1 .left) _ (s2 .block-of .ensures .0) (s1 .if2 .taken))
 
 publish-len-requires : tie.Need-publish-len-requires
 publish-len-requires c κs = search needs
@@ -46,7 +58,16 @@ refuse-requires-3 : tie.Need-refuse-requires-3
 refuse-requires-3 c κs = search needs
 
 returns-3 : tie.Need-returns-3
-returns-3 c = rw (c .refuse3 .ensures) (publish-past (c .before .before .before .before .before .before .before .before .before .before .before .args .t1) _ _ _ _ (c .before .before .before .before .before .before .before .before .before .before .find .ensures) (c .before .before .before .before .before .before .before .before .before .counted .ensures .0) (c .before .before .before .before .before .before .before .before .if1 .left) _ (c .before .before .before .before .before .before .block-of .ensures .0) (c .before .before .before .before .before .if2 .left) _ _ (c .before .before .before .publish-len .ensures) (c .before .enum-told .given .1))
+returns-3 c =
+    let s1 = c .before in
+    let s3 = s1 .before .before in
+    let s5 = s3 .before .before in
+    let s6 = s5 .before in
+    let s8 = s6 .before .before in
+    let s9 = s8 .before in
+    let s10 = s9 .before in
+    let s11 = s10 .before in
+    rw (c .refuse3 .ensures) (publish-past (s11 .args .t1) _ _ _ _ (s10 .find .ensures) (s9 .counted .ensures .0) (s8 .if1 .left) _ (s6 .block-of .ensures .0) (s5 .if2 .left) _ _ (s3 .publish-len .ensures) (s1 .enum-told .given .1))
 
 sub-stop-requires : tie.Need-sub-stop-requires
 sub-stop-requires c κs = search needs
@@ -59,9 +80,20 @@ refuse-requires-4 c κs = search needs
 
 returns-4 : tie.Need-returns-4
 returns-4 c =
+    let s1 = c .before in
+    let s3 = s1 .before .before in
+    let s4 = s3 .before in
+    let s7 = s4 .before .before .before in
+    let s9 = s7 .before .before in
+    let s11 = s9 .before .before in
+    let s12 = s11 .before in
+    let s14 = s12 .before .before in
+    let s15 = s14 .before in
+    let s16 = s15 .before in
+    let s17 = s16 .before in
     rw (c .refuse4 .ensures)
-    (publish-never (c .before .before .before .before .before .before .before .before .before .before .before .before .before .before .before .before .before .args .t1) _ _ _ _ (c .before .before .before .before .before .before .before .before .before .before .before .before .before .before .before .before .find .ensures) (c .before .before .before .before .before .before .before .before .before .before .before .before .before .before .before .counted .ensures .0) (c .before .before .before .before .before .before .before .before .before .before .before .before .before .before .if1 .left) _ (c .before .before .before .before .before .before .before .before .before .before .before .before .block-of .ensures .0) (c .before .before .before .before .before .before .before .before .before .before .before .if2 .left) _ _ (c .before .before .before .before .before .before .before .before .before .publish-len .ensures) (c .before .before .before .before .before .before .before .next .given .1) _
-    (c .before .before .before .before .sub-stop .ensures) _ (c .before .before .before .add-usage .ensures) (c .before .if3 .taken))
+    (publish-never (s17 .args .t1) _ _ _ _ (s16 .find .ensures) (s15 .counted .ensures .0) (s14 .if1 .left) _ (s12 .block-of .ensures .0) (s11 .if2 .left) _ _ (s9 .publish-len .ensures) (s7 .next .given .1) _
+    (s4 .sub-stop .ensures) _ (s3 .add-usage .ensures) (s1 .if3 .taken))
 
 mul-region-2 : tie.Need-mul-region-2
 mul-region-2 c = search needs
@@ -71,8 +103,19 @@ element-set-from-region c = search needs
 
 returns-5 : tie.Need-returns-5
 returns-5 c =
-    publish-done (c .before .before .before .before .before .before .before .before .before .before .before .before .before .before .before .before .before .args .t1) _ _ _ _ (c .before .before .before .before .before .before .before .before .before .before .before .before .before .before .before .before .find .ensures) (c .before .before .before .before .before .before .before .before .before .before .before .before .before .before .before .counted .ensures .0) (c .before .before .before .before .before .before .before .before .before .before .before .before .before .before .if1 .left) _ (c .before .before .before .before .before .before .before .before .before .before .before .before .block-of .ensures .0) (c .before .before .before .before .before .before .before .before .before .before .before .if2 .left) _ _ (c .before .before .before .before .before .before .before .before .before .publish-len .ensures) (c .before .before .before .before .before .before .before .next .given .1) _
-    (c .before .before .before .before .sub-stop .ensures) _ (c .before .before .before .add-usage .ensures) (c .before .if3 .left)
+    let s1 = c .before in
+    let s3 = s1 .before .before in
+    let s4 = s3 .before in
+    let s7 = s4 .before .before .before in
+    let s9 = s7 .before .before in
+    let s11 = s9 .before .before in
+    let s12 = s11 .before in
+    let s14 = s12 .before .before in
+    let s15 = s14 .before in
+    let s16 = s15 .before in
+    let s17 = s16 .before in
+    publish-done (s17 .args .t1) _ _ _ _ (s16 .find .ensures) (s15 .counted .ensures .0) (s14 .if1 .left) _ (s12 .block-of .ensures .0) (s11 .if2 .left) _ _ (s9 .publish-len .ensures) (s7 .next .given .1) _
+    (s4 .sub-stop .ensures) _ (s3 .add-usage .ensures) (s1 .if3 .left)
 
 pub publish-spec : {M : Type 1} → statement M
 publish-spec =

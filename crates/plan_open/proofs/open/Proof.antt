@@ -18,10 +18,20 @@ same-length : tie.Need-same-length
 same-length c = search needs
 
 returns : tie.Need-returns
-returns c = open-refused _ _ _ _ (c .before .before .before .before .before .before .before .before .before .before .before .before .args .scratch .now) _ _ _ _ _ (c .before .before .before .before .before .before .places .ensures) (c .before .before .before .before .refusal .ensures) (λ z. omega (arith, z, c .before .if1 .taken)) _ (c .blank .ensures)
+returns c =
+    let s1 = c .before in
+    let s4 = s1 .before .before .before in
+    let s6 = s4 .before .before in
+    let s12 = s6 .before .before .before .before .before .before in
+    open-refused _ _ _ _ (s12 .args .scratch .now) _ _ _ _ _ (s6 .places .ensures) (s4 .refusal .ensures) (λ z. omega (arith, z, s1 .if1 .taken)) _ (c .blank .ensures)
 
 build-requires : tie.Need-build-requires
-build-requires c κs = accepts _ _ _ _ (c .before .before .before .before .before .before .before .before .before .before .before .before .before .before .args .scratch .now) _ _ _ _ _ (c .before .before .before .before .before .before .before .before .places .ensures) (c .before .before .before .before .before .before .refusal .ensures) (omega (arith, c .before .before .before .if1 .left))
+build-requires c κs =
+    let s3 = c .before .before .before in
+    let s6 = s3 .before .before .before in
+    let s8 = s6 .before .before in
+    let s14 = s8 .before .before .before .before .before .before in
+    accepts _ _ _ _ (s14 .args .scratch .now) _ _ _ _ _ (s8 .places .ensures) (s6 .refusal .ensures) (omega (arith, s3 .if1 .left))
 
 same-length-2 : tie.Need-same-length-2
 same-length-2 c = search needs
@@ -36,7 +46,13 @@ same-length-5 : tie.Need-same-length-5
 same-length-5 c = search needs
 
 returns-2 : tie.Need-returns-2
-returns-2 c = open-accepted _ _ _ _ (c .before .before .before .before .before .before .before .before .before .before .before .before .before .before .before .before .before .before .before .before .before .args .scratch .now) _ _ _ _ _ (c .before .before .before .before .before .before .before .before .before .before .before .before .before .before .before .places .ensures) (c .before .before .before .before .before .before .before .before .before .before .before .before .before .refusal .ensures) (c .before .before .before .before .before .before .before .before .before .before .if1 .left) _ _ _ _ (c .before .before .before .before .before .before .build .ensures)
+returns-2 c =
+    let s6 = c .before .before .before .before .before .before in
+    let s10 = s6 .before .before .before .before in
+    let s13 = s10 .before .before .before in
+    let s15 = s13 .before .before in
+    let s21 = s15 .before .before .before .before .before .before in
+    open-accepted _ _ _ _ (s21 .args .scratch .now) _ _ _ _ _ (s15 .places .ensures) (s13 .refusal .ensures) (s10 .if1 .left) _ _ _ _ (s6 .build .ensures)
 
 pub open-spec : {M : Type 1} → statement M
 open-spec =

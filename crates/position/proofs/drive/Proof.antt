@@ -26,16 +26,38 @@ same-length : tie.Need-same-length
 same-length c = c .before .before .before .before .before .before .before .before .before .before .before .before .before .before .before .before .before .before .before .before .before .before .before .before .before .before .before .before .before .before .before .before .before .before .before .before .before .before .before .before .before .before .before .before .before .before .before .«open» .kept .1 .1 .1 .1 .0
 
 same-length-2 : tie.Need-same-length-2
-same-length-2 c = c .before .before .before .before .before .before .before .drop .kept .1 .0 ∙ c .before .before .before .before .before .before .before .before .before .before .before .before .before .before .before .before .before .before .before .before .before .before .before .grow .kept .1 .0 ∙ c .before .before .before .before .before .before .before .before .before .before .before .before .before .before .before .before .before .before .before .before .before .before .before .before .before .before .before .before .before .before .before .before .before .before .create .kept .1 .0 ∙ c .before .before .before .before .before .before .before .before .before .before .before .before .before .before .before .before .before .before .before .before .before .before .before .before .before .before .before .before .before .before .before .before .before .before .before .before .before .before .before .before .before .before .before .before .before .before .before .«open» .kept .1 .1 .1 .1 .1 .0
+same-length-2 c =
+    let s7 = c .before .before .before .before .before .before .before in
+    let s23 = s7 .before .before .before .before .before .before .before .before .before .before .before .before .before .before .before .before in
+    let s34 = s23 .before .before .before .before .before .before .before .before .before .before .before in
+    let s47 = s34 .before .before .before .before .before .before .before .before .before .before .before .before .before in
+    s7 .drop .kept .1 .0 ∙ s23 .grow .kept .1 .0 ∙ s34 .create .kept .1 .0 ∙ s47 .«open» .kept .1 .1 .1 .1 .1 .0
 
 same-length-3 : tie.Need-same-length-3
-same-length-3 c = c .before .before .before .before .before .before .before .drop .kept .1 .1 .0 ∙ c .before .before .before .before .before .before .before .before .before .before .before .before .before .before .before .before .before .before .before .before .before .before .before .grow .kept .1 .1 .0 ∙ c .before .before .before .before .before .before .before .before .before .before .before .before .before .before .before .before .before .before .before .before .before .before .before .before .before .before .before .before .before .before .before .before .before .before .create .kept .1 .1 .0 ∙ c .before .before .before .before .before .before .before .before .before .before .before .before .before .before .before .before .before .before .before .before .before .before .before .before .before .before .before .before .before .before .before .before .before .before .before .before .before .before .before .before .before .before .before .before .before .before .before .«open» .kept .1 .1 .1 .1 .1 .1 .0
+same-length-3 c =
+    let s7 = c .before .before .before .before .before .before .before in
+    let s23 = s7 .before .before .before .before .before .before .before .before .before .before .before .before .before .before .before .before in
+    let s34 = s23 .before .before .before .before .before .before .before .before .before .before .before in
+    let s47 = s34 .before .before .before .before .before .before .before .before .before .before .before .before .before in
+    s7 .drop .kept .1 .1 .0 ∙ s23 .grow .kept .1 .1 .0 ∙ s34 .create .kept .1 .1 .0 ∙ s47 .«open» .kept .1 .1 .1 .1 .1 .1 .0
 
 same-length-4 : tie.Need-same-length-4
-same-length-4 c = c .before .before .before .before .before .before .before .drop .kept .1 .1 .1 .0 ∙ c .before .before .before .before .before .before .before .before .before .before .before .before .before .before .before .before .before .before .before .before .before .before .before .grow .kept .1 .1 .1 .0 ∙ c .before .before .before .before .before .before .before .before .before .before .before .before .before .before .before .before .before .before .before .before .before .before .before .before .before .before .before .before .before .before .before .before .before .before .create .kept .1 .1 .1 .0 ∙ c .before .before .before .before .before .before .before .before .before .before .before .before .before .before .before .before .before .before .before .before .before .before .before .before .before .before .before .before .before .before .before .before .before .before .before .before .before .before .before .before .before .before .before .before .before .before .before .«open» .kept .1 .1 .1 .1 .1 .1 .1 .0
+same-length-4 c =
+    let s7 = c .before .before .before .before .before .before .before in
+    let s23 = s7 .before .before .before .before .before .before .before .before .before .before .before .before .before .before .before .before in
+    let s34 = s23 .before .before .before .before .before .before .before .before .before .before .before in
+    let s47 = s34 .before .before .before .before .before .before .before .before .before .before .before .before .before in
+    s7 .drop .kept .1 .1 .1 .0 ∙ s23 .grow .kept .1 .1 .1 .0 ∙ s34 .create .kept .1 .1 .1 .0 ∙ s47 .«open» .kept .1 .1 .1 .1 .1 .1 .1 .0
 
 returns : tie.Need-returns
-returns c = drives _ _ _ _ _ _ _ _ _ _ _ _ _ _ _ _ _ _ _ _ _ _ _ _ _ _ _ (c .before .before .before .before .before .before .before .before .before .before .before .before .before .before .before .before .before .before .before .before .before .before .before .before .before .before .before .before .before .before .before .before .before .before .before .before .before .before .before .before .before .before .before .before .before .before .before .«open» .ensures) (c .before .before .before .before .before .before .before .before .before .before .before .before .before .before .before .before .before .before .before .before .before .before .before .before .before .before .before .before .before .before .before .before .before .before .create .ensures) (c .before .before .before .before .before .before .before .before .before .before .before .before .before .before .before .before .before .before .before .before .before .before .before .grow .ensures) (c .before .before .before .before .before .before .before .before .before .before .before .before .before .before .before .publish .ensures) (c .before .before .before .before .before .before .before .before .before .before .before .locate .ensures) (c .before .before .before .before .before .before .before .drop .ensures)
+returns c =
+    let s7 = c .before .before .before .before .before .before .before in
+    let s11 = s7 .before .before .before .before in
+    let s15 = s11 .before .before .before .before in
+    let s23 = s15 .before .before .before .before .before .before .before .before in
+    let s34 = s23 .before .before .before .before .before .before .before .before .before .before .before in
+    let s47 = s34 .before .before .before .before .before .before .before .before .before .before .before .before .before in
+    drives _ _ _ _ _ _ _ _ _ _ _ _ _ _ _ _ _ _ _ _ _ _ _ _ _ _ _ (s47 .«open» .ensures) (s34 .create .ensures) (s23 .grow .ensures) (s15 .publish .ensures) (s11 .locate .ensures) (s7 .drop .ensures)
 
 pub drive-spec : {M : Type 1} → statement M
 drive-spec =

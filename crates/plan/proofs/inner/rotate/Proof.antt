@@ -65,7 +65,11 @@ element-set-from-gone : tie.Need-element-set-from-gone Inv-loop μ-loop
 element-set-from-gone c = omega arith
 
 returns : tie.Need-returns Inv-loop μ-loop
-returns c = rotated-is (c .before .before .before .before .args .t1) (c .before .loop .plan) _ _ _ (c .before .before .counted .ensures .0) (omega (arith, c .before .before .before .before .pre, c .before .before .counted .ensures .0)) (c .before .loop .inv .0) (omega arith) (c .before .loop .inv .1) (c .before .loop .inv .2) (c .before .loop .inv .3)
+returns c =
+    let s1 = c .before in
+    let s2 = s1 .before in
+    let s4 = s2 .before .before in
+    rotated-is (s4 .args .t1) (s1 .loop .plan) _ _ _ (s2 .counted .ensures .0) (omega (arith, s4 .pre, s2 .counted .ensures .0)) (s1 .loop .inv .0) (omega arith) (s1 .loop .inv .1) (s1 .loop .inv .2) (s1 .loop .inv .3)
 
 pub rotate-spec : {M : Type 1} → statement M
 rotate-spec =

@@ -17,7 +17,10 @@ same-length : tie.Need-same-length
 same-length c = search needs
 
 returns : tie.Need-returns
-returns c = c .number-of .ensures ∙ ap numberOf (c .before .before .before .fill-footprint .ensures .answer) ∙ number-told _ _ ∙ ap (refusalOf _ _ _ _ _) (c .before .before .before .before .before .before .before .pre)
+returns c =
+    let s3 = c .before .before .before in
+    let s7 = s3 .before .before .before .before in
+    c .number-of .ensures ∙ ap numberOf (s3 .fill-footprint .ensures .answer) ∙ number-told _ _ ∙ ap (refusalOf _ _ _ _ _) (s7 .pre)
 
 pub check-spec : {M : Type 1} → statement M
 check-spec = tie.close (tie.spec fill-footprint-requires number-of-requires same-length returns)

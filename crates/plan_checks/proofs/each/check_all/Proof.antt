@@ -65,10 +65,18 @@ check-requires : tie.Need-check-requires Inv-loop μ-loop
 check-requires c κs = check-front (c .before .before .before .before .before .before .before .before .loop .inv) (c .before .before .before .before .before .before .before .loop-test .taken)
 
 same-length : tie.Need-same-length Inv-loop μ-loop
-same-length c = (check-kept (c .before .before .before .before .before .before .before .before .before .before .before .before .loop .inv) (c .before .before .before .before .before .before .before .before .before .before .before .loop-test .taken) (c .before .before .before .check .last .1 .1 .1 .0) (c .before .before .before .check .kept .1 .1 .1 .0))
+same-length c =
+    let s3 = c .before .before .before in
+    let s11 = s3 .before .before .before .before .before .before .before .before in
+    let s12 = s11 .before in
+    (check-kept (s12 .loop .inv) (s11 .loop-test .taken) (s3 .check .last .1 .1 .1 .0) (s3 .check .kept .1 .1 .1 .0))
 
 returns : tie.Need-returns Inv-loop μ-loop
-returns c = check-fails (c .before .before .before .before .before .before .before .before .before .before .before .before .loop .inv) (c .before .before .before .before .before .before .before .before .before .before .before .loop-test .taken) _ (c .before .before .before .check .ensures) (c .if1 .taken)
+returns c =
+    let s3 = c .before .before .before in
+    let s11 = s3 .before .before .before .before .before .before .before .before in
+    let s12 = s11 .before in
+    check-fails (s12 .loop .inv) (s11 .loop-test .taken) _ (s3 .check .ensures) (c .if1 .taken)
 
 add-i : tie.Need-add-i Inv-loop μ-loop
 add-i c = let g = c .before .before .before .before .before .before .before .before .before .before .before .before .loop .inv in let h = c .before .before .before .before .before .before .before .before .before .before .before .loop-test .taken in omega (arith, g .along .few)
@@ -77,7 +85,11 @@ loop-less : tie.Need-loop-less Inv-loop μ-loop
 loop-less c = let h = c .before .before .before .before .before .before .before .before .before .before .before .loop-test .taken in omega arith
 
 loop-again : tie.Need-loop-again Inv-loop μ-loop
-loop-again c = check-on (c .before .before .before .before .before .before .before .before .before .before .before .before .loop .inv) (c .before .before .before .before .before .before .before .before .before .before .before .loop-test .taken) _ (c .before .before .before .check .ensures) (c .if1 .left) _ (check-kept (c .before .before .before .before .before .before .before .before .before .before .before .before .loop .inv) (c .before .before .before .before .before .before .before .before .before .before .before .loop-test .taken) (c .before .before .before .check .last .1 .1 .1 .0) (c .before .before .before .check .kept .1 .1 .1 .0))
+loop-again c =
+    let s3 = c .before .before .before in
+    let s11 = s3 .before .before .before .before .before .before .before .before in
+    let s12 = s11 .before in
+    check-on (s12 .loop .inv) (s11 .loop-test .taken) _ (s3 .check .ensures) (c .if1 .left) _ (check-kept (s12 .loop .inv) (s11 .loop-test .taken) (s3 .check .last .1 .1 .1 .0) (s3 .check .kept .1 .1 .1 .0))
 
 same-length-2 : tie.Need-same-length-2 Inv-loop μ-loop
 same-length-2 c = (c .before .loop .inv .size)

@@ -21,13 +21,28 @@ returns-3 : tie.Need-returns-3
 returns-3 c = lists-odd _ _ _ _ _ _ (c .if3 .taken)
 
 returns-4 : tie.Need-returns-4
-returns-4 c = lists-other _ _ _ _ _ _ (c .before .before .before .before .before .before .max-extents .ensures) (c .before .before .before .before .before .tally .ensures) (not-false _ (c .before .before .before .if2 .left)) (c .if4 .taken)
+returns-4 c =
+    let s3 = c .before .before .before in
+    let s5 = s3 .before .before in
+    let s6 = s5 .before in
+    lists-other _ _ _ _ _ _ (s6 .max-extents .ensures) (s5 .tally .ensures) (not-false _ (s3 .if2 .left)) (c .if4 .taken)
 
 returns-5 : tie.Need-returns-5
-returns-5 c = lists-scratch _ _ _ _ _ _ (c .before .before .before .before .before .before .before .before .max-extents .ensures) (c .before .before .before .before .before .before .before .tally .ensures) (not-false _ (c .before .before .before .before .before .if2 .left)) (c .if5 .taken)
+returns-5 c =
+    let s5 = c .before .before .before .before .before in
+    let s7 = s5 .before .before in
+    let s8 = s7 .before in
+    lists-scratch _ _ _ _ _ _ (s8 .max-extents .ensures) (s7 .tally .ensures) (not-false _ (s5 .if2 .left)) (c .if5 .taken)
 
 returns-6 : tie.Need-returns-6
-returns-6 c = lists-end _ _ _ _ _ _ (c .before .before .before .before .before .before .before .before .max-extents .ensures) (c .before .before .before .before .before .before .before .tally .ensures) (not-false _ (c .before .before .before .before .before .if2 .left)) (c .before .before .before .before .before .before .before .before .before .if1 .left) (c .before .before .before .before .if3 .left) (c .before .before .if4 .left) (c .if5 .left)
+returns-6 c =
+    let s2 = c .before .before in
+    let s4 = s2 .before .before in
+    let s5 = s4 .before in
+    let s7 = s5 .before .before in
+    let s8 = s7 .before in
+    let s9 = s8 .before in
+    lists-end _ _ _ _ _ _ (s8 .max-extents .ensures) (s7 .tally .ensures) (not-false _ (s5 .if2 .left)) (s9 .if1 .left) (s4 .if3 .left) (s2 .if4 .left) (c .if5 .left)
 
 pub lists-fine-spec : {M : Type 1} → statement M
 lists-fine-spec =

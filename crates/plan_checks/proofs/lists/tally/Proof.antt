@@ -50,7 +50,13 @@ loop-less : tie.Need-loop-less Inv-loop μ-loop
 loop-less c = omega arith
 
 loop-again : tie.Need-loop-again Inv-loop μ-loop
-loop-again c = tally-on (c .before .before .before .before .before .before .before .before .loop .inv) (c .before .before .before .before .before .before .before .loop-test .taken) (c .before .before .before .before .before .within .ensures .holds (not-false _ (c .before .before .before .before .if1 .left))) (omega (arith, c .before .struct-known .given)) (omega (arith, c .struct-known2 .given))
+loop-again c =
+    let s1 = c .before in
+    let s4 = s1 .before .before .before in
+    let s5 = s4 .before in
+    let s7 = s5 .before .before in
+    let s8 = s7 .before in
+    tally-on (s8 .loop .inv) (s7 .loop-test .taken) (s5 .within .ensures .holds (not-false _ (s4 .if1 .left))) (omega (arith, s1 .struct-known .given)) (omega (arith, c .struct-known2 .given))
 
 returns-2 : tie.Need-returns-2 Inv-loop μ-loop
 returns-2 c = tally-ends (c .before .loop .inv) (c .loop-test .left)

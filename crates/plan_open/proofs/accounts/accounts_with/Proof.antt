@@ -48,7 +48,11 @@ same-length-3 : tie.Need-same-length-3
 same-length-3 c = search needs
 
 returns : tie.Need-returns
-returns c = posted (c .before .before .before .before .before .before .before .before .before .before .before .before .before .before .list-usage .ensures) _ (records-length _ _) (c .before .before .before .before .before .before .before .before .before .before .before .before .before .before .before .before .before .before .before .before .before .pre .1 .few) _ (c .before .from-usage .ensures)
+returns c =
+    let s1 = c .before in
+    let s14 = s1 .before .before .before .before .before .before .before .before .before .before .before .before .before in
+    let s21 = s14 .before .before .before .before .before .before .before in
+    posted (s14 .list-usage .ensures) _ (records-length _ _) (s21 .pre .1 .few) _ (s1 .from-usage .ensures)
 
 pub accounts-with-spec : {M : Type 1} → statement M
 accounts-with-spec =

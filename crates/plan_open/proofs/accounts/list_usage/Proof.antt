@@ -77,7 +77,12 @@ same-length-3 : tie.Need-same-length-3 Inv-loop μ-loop
 same-length-3 c = fill-size (c .before .loop .inv .in-physical)
 
 returns : tie.Need-returns Inv-loop μ-loop
-returns c = use-ends (c .before .loop .inv) _ (c .before .before .add-stop .ensures ∙ ap (λ (b : ℕ). stop (b + b)) (block-small (c .before .before .before .block-of .ensures .0) (omega (arith, c .before .before .before .before .before .before .before .pre .0)))) (c .loop-test .left)
+returns c =
+    let s1 = c .before in
+    let s2 = s1 .before in
+    let s3 = s2 .before in
+    let s7 = s3 .before .before .before .before in
+    use-ends (s1 .loop .inv) _ (s2 .add-stop .ensures ∙ ap (λ (b : ℕ). stop (b + b)) (block-small (s3 .block-of .ensures .0) (omega (arith, s7 .pre .0)))) (c .loop-test .left)
 
 pub list-usage-spec : {M : Type 1} → statement M
 list-usage-spec =

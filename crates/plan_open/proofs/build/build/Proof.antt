@@ -23,7 +23,11 @@ same-length-3 : tie.Need-same-length-3
 same-length-3 c = search needs
 
 returns : tie.Need-returns
-returns c = built (c .before .before .before .before .before .before .before .before .before .before .before .before .before .before .before .before .pre) (c .before .before .before .before .before .before .before .before .fill .ensures) _ (c .before .highest-seq .ensures) (c .accounts-of .ensures)
+returns c =
+    let s1 = c .before in
+    let s8 = s1 .before .before .before .before .before .before .before in
+    let s16 = s8 .before .before .before .before .before .before .before .before in
+    built (s16 .pre) (s8 .fill .ensures) _ (s1 .highest-seq .ensures) (c .accounts-of .ensures)
 
 pub build-spec : {M : Type 1} → statement M
 build-spec =

@@ -111,7 +111,11 @@ loop-less : tie.Need-loop-less Inv-loop μ-loop
 loop-less c = let h = c .before .before .before .before .before .before .before .before .before .before .before .before .before .before .loop-test .taken in omega arith
 
 loop-again : tie.Need-loop-again Inv-loop μ-loop
-loop-again c = place-on (c .before .before .before .before .before .before .before .before .before .before .before .before .before .before .before .loop .inv) (c .before .before .before .before .before .before .before .before .before .before .before .before .before .before .loop-test .taken) _ _ _ (c .before .before .before .before .before .before .fill-row .kept .1 .1 .1 .0) (c .before .before .before .before .before .before .fill-row .kept .1 .1 .1 .1 .0) (c .before .before .before .before .before .before .fill-row .kept .1 .1 .1 .1 .1 .0) _ (c .before .before .before .before .before .before .fill-row .ensures)
+loop-again c =
+    let s6 = c .before .before .before .before .before .before in
+    let s14 = s6 .before .before .before .before .before .before .before .before in
+    let s15 = s14 .before in
+    place-on (s15 .loop .inv) (s14 .loop-test .taken) _ _ _ (s6 .fill-row .kept .1 .1 .1 .0) (s6 .fill-row .kept .1 .1 .1 .1 .0) (s6 .fill-row .kept .1 .1 .1 .1 .1 .0) _ (s6 .fill-row .ensures)
 
 same-length : tie.Need-same-length Inv-loop μ-loop
 same-length c = (c .before .loop .inv .extents .size)

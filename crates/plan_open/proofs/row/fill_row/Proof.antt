@@ -48,7 +48,11 @@ same-length-3 : tie.Need-same-length-3
 same-length-3 c = search needs
 
 returns : tie.Need-returns
-returns c = rowed (c .before .before .before .before .before .before .before .before .before .before .before .before .before .before .before .before .before .before .before .before .before .before .args .one) _ (c .before .before .before .before .before .before .before .before .before .before .before .before .before .before .before .before .before .before .before .before .before .before .pre .0) _ (c .before .before .before .before .before .before .before .before .before .before .before .before .before .before .before .before .before .before .before .before .before .before .args .extents .now) (c .before .before .before .before .before .before .before .before .before .before .before .before .copy-numbers .last .1 .0) _ _ _ (c .before .before .before .before .before .before .before .before .before .before .before .before .before .before .before .before .before .before .before .before .before .before .pre .1) (c .before .before .before .before .before .before .before .before .before .before .before .before .copy-numbers .ensures) (c .before .before .before .before .before .before .map-row .ensures)
+returns c =
+    let s6 = c .before .before .before .before .before .before in
+    let s12 = s6 .before .before .before .before .before .before in
+    let s22 = s12 .before .before .before .before .before .before .before .before .before .before in
+    rowed (s22 .args .one) _ (s22 .pre .0) _ (s22 .args .extents .now) (s12 .copy-numbers .last .1 .0) _ _ _ (s22 .pre .1) (s12 .copy-numbers .ensures) (s6 .map-row .ensures)
 
 pub fill-row-spec : {M : Type 1} → statement M
 fill-row-spec =

@@ -37,7 +37,11 @@ loop-less : tie.Need-loop-less Inv-loop μ-loop
 loop-less c = omega arith
 
 loop-again : tie.Need-loop-again Inv-loop μ-loop
-loop-again c = (omega arith, spot-later (c .before .before .before .before .args .t1) _ _ (omega (arith, c .before .before .before .counted .ensures .0)) (c .before .before .loop .inv .1) (c .if1 .left))
+loop-again c =
+    let s2 = c .before .before in
+    let s3 = s2 .before in
+    let s4 = s3 .before in
+    (omega arith, spot-later (s4 .args .t1) _ _ (omega (arith, s3 .counted .ensures .0)) (s2 .loop .inv .1) (c .if1 .left))
 
 returns-2 : tie.Need-returns-2 Inv-loop μ-loop
 returns-2 c = spot-none (c .before .before .before .args .t1) _ _ _ (c .before .before .counted .ensures .0) (omega arith) (c .before .loop .inv .0) (c .before .loop .inv .1)

@@ -35,8 +35,11 @@ same-length-2 c = search needs
 
 returns : tie.Need-returns
 returns c =
-    lent-taken (c .before .before .before .before .before .before .before .before .before .before .before .before .before .before .before .before .args .self) (c .before .before .before .before .before .before .before .before .before .before .before .before .before .before .before .before .args .extents .now) (c .before .before .before .before .before .before .before .before .before .before .before .before .before .before .before .before .args .ranges .now) _ _ (c .before .before .before .before .before .before .before .before .before .before .before .lay-footprints .ensures .0) (c .before .before .before .before .before .before .before .before .before .before .before .lay-footprints .ensures .1 .0) (c .before .before .before .before .before .before .before .before .before .before .before .lay-footprints .ensures .1 .1) (c .before .before .before .before .before .before .before .before .before .before .before .before .before .before .before .before .pre .1)
-    (c .before .before .before .before .before .before .before .before .before .before .before .lay-footprints .kept .1 .1 .0) (c .before .before .before .before .before .before .before .before .before .before .before .before .before .before .before .before .args .gaps .now) (c .before .before .before .before .before .before .before .before .before .before .before .before .before .before .before .before .pre .2) _ _ _ _ _ _ (c .before .before .before .before .before .before .complement .ensures) (c .enum-told .given .1)
+    let s6 = c .before .before .before .before .before .before in
+    let s11 = s6 .before .before .before .before .before in
+    let s16 = s11 .before .before .before .before .before in
+    lent-taken (s16 .args .self) (s16 .args .extents .now) (s16 .args .ranges .now) _ _ (s11 .lay-footprints .ensures .0) (s11 .lay-footprints .ensures .1 .0) (s11 .lay-footprints .ensures .1 .1) (s16 .pre .1)
+    (s11 .lay-footprints .kept .1 .1 .0) (s16 .args .gaps .now) (s16 .pre .2) _ _ _ _ _ _ (s6 .complement .ensures) (c .enum-told .given .1)
 
 block-of-requires : tie.Need-block-of-requires
 block-of-requires c κs = search needs
@@ -52,8 +55,13 @@ same-length-4 c = search needs
 
 returns-2 : tie.Need-returns-2
 returns-2 c =
-    fits-lowest (c .before .before .before .before .before .before .before .before .before .before .before .before .before .before .before .before .before .before .before .before .args .self) (c .before .before .before .before .before .before .before .before .before .before .before .before .before .before .before .before .before .before .before .before .args .extents .now) (c .before .before .before .before .before .before .before .before .before .before .before .before .before .before .before .before .before .before .before .before .args .ranges .now) _ _ (c .before .before .before .before .before .before .before .before .before .before .before .before .before .before .before .lay-footprints .ensures .0) (c .before .before .before .before .before .before .before .before .before .before .before .before .before .before .before .lay-footprints .ensures .1 .0) (c .before .before .before .before .before .before .before .before .before .before .before .before .before .before .before .lay-footprints .ensures .1 .1) (c .before .before .before .before .before .before .before .before .before .before .before .before .before .before .before .before .before .before .before .before .pre .1)
-    (c .before .before .before .before .before .before .before .before .before .before .before .before .before .before .before .lay-footprints .kept .1 .1 .0) (c .before .before .before .before .before .before .before .before .before .before .before .before .before .before .before .before .before .before .before .before .args .gaps .now) (c .before .before .before .before .before .before .before .before .before .before .before .before .before .before .before .before .before .before .before .before .pre .2) _ _ _ _ _ _ _ (c .before .before .before .before .before .before .before .before .before .before .complement .ensures) (c .before .before .before .before .found .given .1) (c .before .block-of .ensures .0) (c .first-fit .ensures)
+    let s1 = c .before in
+    let s4 = s1 .before .before .before in
+    let s10 = s4 .before .before .before .before .before .before in
+    let s15 = s10 .before .before .before .before .before in
+    let s20 = s15 .before .before .before .before .before in
+    fits-lowest (s20 .args .self) (s20 .args .extents .now) (s20 .args .ranges .now) _ _ (s15 .lay-footprints .ensures .0) (s15 .lay-footprints .ensures .1 .0) (s15 .lay-footprints .ensures .1 .1) (s20 .pre .1)
+    (s15 .lay-footprints .kept .1 .1 .0) (s20 .args .gaps .now) (s20 .pre .2) _ _ _ _ _ _ _ (s10 .complement .ensures) (s4 .found .given .1) (s1 .block-of .ensures .0) (c .first-fit .ensures)
 
 pub fit-among-spec : {M : Type 1} → statement M
 fit-among-spec =

@@ -42,7 +42,11 @@ loop-less : tie.Need-loop-less Inv-loop μ-loop
 loop-less c = omega arith
 
 loop-again : tie.Need-loop-again Inv-loop μ-loop
-loop-again c = summing-turns (c .before .before .before .loop .inv) _ _ _ (omega arith) (ap (λ (n : ℕ). 2 * n) (c .before .before .before .before .block-of .ensures .0)) (c .before .add-stop .ensures) (c .add-stop2 .ensures)
+loop-again c =
+    let s1 = c .before in
+    let s3 = s1 .before .before in
+    let s4 = s3 .before in
+    summing-turns (s3 .loop .inv) _ _ _ (omega arith) (ap (λ (n : ℕ). 2 * n) (s4 .block-of .ensures .0)) (s1 .add-stop .ensures) (c .add-stop2 .ensures)
 
 returns : tie.Need-returns Inv-loop μ-loop
 returns c = held-told (c .before .loop .inv) (omega arith)

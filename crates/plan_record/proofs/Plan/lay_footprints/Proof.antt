@@ -39,13 +39,20 @@ loop-less : tie.Need-loop-less Inv-loop μ-loop
 loop-less c = omega arith
 
 loop-again : tie.Need-loop-again Inv-loop μ-loop
-loop-again c = (plan-turns (c .before .before .before .before .before .before .before .before .before .before .before .args .t1) (c .before .before .before .before .before .before .loop .inv .0) (omega arith) (c .before .before .before .before .before .before .before .before .before .before .before .pre) (c .before .before .lay .ensures .0) (c .before .before .lay .ensures .1) (c .before .before .lay .kept .1 .1 .1 .0), c .before .before .before .before .before .before .loop .inv .1, c .before .before .before .before .before .before .loop .inv .2, c .before .before .before .before .before .before .loop .inv .3)
+loop-again c =
+    let s2 = c .before .before in
+    let s6 = s2 .before .before .before .before in
+    let s11 = s6 .before .before .before .before .before in
+    (plan-turns (s11 .args .t1) (s6 .loop .inv .0) (omega arith) (s11 .pre) (s2 .lay .ensures .0) (s2 .lay .ensures .1) (s2 .lay .kept .1 .1 .1 .0), s6 .loop .inv .1, s6 .loop .inv .2, s6 .loop .inv .3)
 
 same-length : tie.Need-same-length Inv-loop μ-loop
 same-length c = c .before .loop .inv .0 .whole
 
 returns : tie.Need-returns Inv-loop μ-loop
-returns c = (all-ends (c .before .before .before .before .before .before .args .t1) (c .before .loop .inv .0) (c .before .loop .inv .1) (omega arith), (all-length (c .before .before .before .before .before .before .args .t1) (c .before .loop .inv .0) (c .before .loop .inv .1) (omega arith), omega (arith, c .before .loop .inv .0 .few)))
+returns c =
+    let s1 = c .before in
+    let s6 = s1 .before .before .before .before .before in
+    (all-ends (s6 .args .t1) (s1 .loop .inv .0) (s1 .loop .inv .1) (omega arith), (all-length (s6 .args .t1) (s1 .loop .inv .0) (s1 .loop .inv .1) (omega arith), omega (arith, s1 .loop .inv .0 .few)))
 
 pub lay-footprints-spec : {M : Type 1} → statement M
 lay-footprints-spec =

@@ -39,7 +39,10 @@ loop-less : tie.Need-loop-less Inv-loop μ-loop
 loop-less c = omega arith
 
 loop-again : tie.Need-loop-again Inv-loop μ-loop
-loop-again c = (looked-on (c .before .before .before .before .before .loop .inv .0) (omega arith) (sym (c .if2 .left) ∙ c .before .same-name .ensures), c .before .before .before .before .before .loop .inv .1)
+loop-again c =
+    let s1 = c .before in
+    let s5 = s1 .before .before .before .before in
+    (looked-on (s5 .loop .inv .0) (omega arith) (sym (c .if2 .left) ∙ s1 .same-name .ensures), s5 .loop .inv .1)
 
 returns-3 : tie.Need-returns-3 Inv-loop μ-loop
 returns-3 c = record { told = λ l. looked-all (c .before .loop .inv .0) (omega arith) }

@@ -33,10 +33,14 @@ same-length : tie.Need-same-length
 same-length c = search needs
 
 returns : tie.Need-returns
-returns c = (
-  lays-footprint (c .before .before .before .before .before .before .before .before .before .before .before .before .before .before .before .args .extents .now) (c .before .before .before .before .before .before .before .before .before .before .before .before .before .before .before .args .region) (c .before .before .before .before .before .before .before .before .before .before .before .before .before .before .before .pre .0) _ _ _ _ _ _ _ _ refl refl (c .before .before .before .before .before .before .before .before .before .before .before .put-pair .ensures) (c .before .before .before .before .before .before .before .put-pair2 .ensures) (c .before .before .before .lay-extents .ensures) (c .before .before .before .before .before .before .before .before .before .before .before .put-pair .kept .0) (c .before .before .before .before .before .before .before .put-pair2 .kept .0 ∙ c .before .before .before .before .before .before .before .before .before .before .before .put-pair .kept .0),
-  omega (arith, laid-length (c .before .before .before .before .before .before .before .before .before .before .before .before .before .before .before .args .extents .now) (c .before .before .before .before .before .before .before .before .before .before .before .before .before .before .before .args .region) (c .before .before .before .before .before .before .before .before .before .before .before .before .before .before .before .pre .0) (c .before .before .before .before .before .before .before .before .before .before .before .before .before .before .before .args .block), c .own-count .ensures),
-)
+returns c =
+    let s3 = c .before .before .before in
+    let s7 = s3 .before .before .before .before in
+    let s11 = s7 .before .before .before .before in
+    let s15 = s11 .before .before .before .before in (
+      lays-footprint (s15 .args .extents .now) (s15 .args .region) (s15 .pre .0) _ _ _ _ _ _ _ _ refl refl (s11 .put-pair .ensures) (s7 .put-pair2 .ensures) (s3 .lay-extents .ensures) (s11 .put-pair .kept .0) (s7 .put-pair2 .kept .0 ∙ s11 .put-pair .kept .0),
+      omega (arith, laid-length (s15 .args .extents .now) (s15 .args .region) (s15 .pre .0) (s15 .args .block), c .own-count .ensures),
+    )
 
 pub lay-spec : {M : Type 1} → statement M
 lay-spec =

@@ -46,7 +46,11 @@ loop-less : tie.Need-loop-less Inv-loop μ-loop
 loop-less c = let h = c .before .before .before .before .before .loop-test .taken in omega arith
 
 loop-again : tie.Need-loop-again Inv-loop μ-loop
-loop-again c = names-on (c .before .before .before .before .before .before .loop .inv) (c .before .before .before .before .before .loop-test .taken) _ (c .before .before .put-name .ensures) (c .before .before .put-name .kept .1 .0)
+loop-again c =
+    let s2 = c .before .before in
+    let s5 = s2 .before .before .before in
+    let s6 = s5 .before in
+    names-on (s6 .loop .inv) (s5 .loop-test .taken) _ (s2 .put-name .ensures) (s2 .put-name .kept .1 .0)
 
 same-length : tie.Need-same-length Inv-loop μ-loop
 same-length c = names-size (c .before .loop .inv)

@@ -48,16 +48,27 @@ part-copy-numbers-start-2 : tie.Need-part-copy-numbers-start-2
 part-copy-numbers-start-2 c = search needs
 
 part-copy-numbers-end-2 : tie.Need-part-copy-numbers-end-2
-part-copy-numbers-end-2 c = lay-room (c .before .before .before .before .before .before .args .limits) (recordOf (c .before .before .before .before .before .before .args .one)) (c .before .before .before .before .before .before .args .own .now) (c .before .before .before .block-of .result) (c .before .before .before .before .before .before .args .s .now) (c .before .before .before .before .before .before .pre .1)
+part-copy-numbers-end-2 c =
+    let s3 = c .before .before .before in
+    let s6 = s3 .before .before .before in
+    lay-room (s6 .args .limits) (recordOf (s6 .args .one)) (s6 .args .own .now) (s3 .block-of .result) (s6 .args .s .now) (s6 .pre .1)
 
 copy-numbers-requires : tie.Need-copy-numbers-requires
 copy-numbers-requires c κs = search needs
 
 same-length : tie.Need-same-length
-same-length c = lay-size (c .before .before .before .before .before .before .before .before .before .before .args .limits) (recordOf (c .before .before .before .before .before .before .before .before .before .before .args .one)) (c .before .before .before .before .before .before .before .before .before .before .args .own .now) (c .before .before .before .before .before .before .before .block-of .result) (c .before .before .before .before .before .before .before .before .before .before .args .s .now) (c .before .before .copy-numbers .last .1 .0) (c .before .before .copy-numbers .kept .1 .0)
+same-length c =
+    let s2 = c .before .before in
+    let s7 = s2 .before .before .before .before .before in
+    let s10 = s7 .before .before .before in
+    lay-size (s10 .args .limits) (recordOf (s10 .args .one)) (s10 .args .own .now) (s7 .block-of .result) (s10 .args .s .now) (s2 .copy-numbers .last .1 .0) (s2 .copy-numbers .kept .1 .0)
 
 returns : tie.Need-returns
-returns c = laid (c .before .before .before .before .before .before .before .before .before .before .args .limits) (recordOf (c .before .before .before .before .before .before .before .before .before .before .args .one)) (c .before .before .before .before .before .before .before .before .before .before .args .own .now) (c .before .before .before .before .before .before .before .block-of .result) (c .before .before .before .before .before .before .before .before .before .before .args .s .now) _ (block-small (c .before .before .before .before .before .before .before .block-of .ensures .0) (omega (arith, c .before .before .before .before .before .before .before .before .before .before .pre .0))) (c .before .before .before .before .before .before .before .before .before .before .pre .1) (c .before .before .before .before .before .before .before .before .before .before .pre .2) (c .before .before .copy-numbers .ensures)
+returns c =
+    let s2 = c .before .before in
+    let s7 = s2 .before .before .before .before .before in
+    let s10 = s7 .before .before .before in
+    laid (s10 .args .limits) (recordOf (s10 .args .one)) (s10 .args .own .now) (s7 .block-of .result) (s10 .args .s .now) _ (block-small (s7 .block-of .ensures .0) (omega (arith, s10 .pre .0))) (s10 .pre .1) (s10 .pre .2) (s2 .copy-numbers .ensures)
 
 pub lay-spec : {M : Type 1} → statement M
 lay-spec =

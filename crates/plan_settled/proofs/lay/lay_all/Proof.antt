@@ -77,7 +77,11 @@ loop-less : tie.Need-loop-less Inv-loop μ-loop
 loop-less c = let h = c .before .before .before .before .before .before .before .before .before .before .loop-test .taken in omega arith
 
 loop-again : tie.Need-loop-again Inv-loop μ-loop
-loop-again c = lay-on (c .before .before .before .before .before .before .before .before .before .before .before .loop .inv) (c .before .before .before .before .before .before .before .before .before .before .loop-test .taken) _ (c .before .before .lay .ensures) (c .before .before .lay .kept .1 .1 .1 .0)
+loop-again c =
+    let s2 = c .before .before in
+    let s10 = s2 .before .before .before .before .before .before .before .before in
+    let s11 = s10 .before in
+    lay-on (s11 .loop .inv) (s10 .loop-test .taken) _ (s2 .lay .ensures) (s2 .lay .kept .1 .1 .1 .0)
 
 same-length : tie.Need-same-length Inv-loop μ-loop
 same-length c = lay-length (c .before .loop .inv)

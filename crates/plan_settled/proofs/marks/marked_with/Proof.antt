@@ -73,7 +73,13 @@ same-length-2 : tie.Need-same-length-2
 same-length-2 c = search needs
 
 returns : tie.Need-returns
-returns c = c .some-marked .ensures ∙ settled-marked (c .before .before .before .before .before .before .before .before .before .before .before .before .before .before .before .before .before .before .before .before .before .before .before .before .before .before .before .before .before .before .before .before .before .before .pre .0) (c .before .before .before .before .before .before .before .before .before .before .before .before .before .before .before .before .before .before .before .before .before .before .before .before .before .before .before .list-fields .ensures) (c .before .before .before .before .before .before .before .before .before .before .before .before .before .before .before .before .before .before .before .before .before .before .list-names .ensures) _ _ (c .before .before .before .before .before .before .before .before .before .before .before .before .before .before .before .before .before .before .before .lay-all .ensures) (c .before .before .before .before .before .before .before .before .before .before .before .before .before .before .before .before .before .before .before .lay-all .kept .1 .1 .1 .1 .0 ∙ c .before .before .before .before .before .before .before .before .before .before .before .before .before .before .before .before .before .before .before .before .before .before .before .before .before .before .before .before .before .before .before .before .before .before .pre .1) _ _ _ _ _ (length-replicate {A = ℕ} 64 0) refl (c .before .before .before .before .before .settle .ensures)
+returns c =
+    let s5 = c .before .before .before .before .before in
+    let s19 = s5 .before .before .before .before .before .before .before .before .before .before .before .before .before .before in
+    let s22 = s19 .before .before .before in
+    let s27 = s22 .before .before .before .before .before in
+    let s34 = s27 .before .before .before .before .before .before .before in
+    c .some-marked .ensures ∙ settled-marked (s34 .pre .0) (s27 .list-fields .ensures) (s22 .list-names .ensures) _ _ (s19 .lay-all .ensures) (s19 .lay-all .kept .1 .1 .1 .1 .0 ∙ s34 .pre .1) _ _ _ _ _ (length-replicate {A = ℕ} 64 0) refl (s5 .settle .ensures)
 
 pub marked-with-spec : {M : Type 1} → statement M
 marked-with-spec =
