@@ -14,10 +14,12 @@ command -v rt >/dev/null 2>&1 || lacking "the Rattle kit is not at hand"
 [ -d "$root/../shared/docs/src/crates" ] || lacking "the Rust sources are not at hand: ../shared/docs/src is missing"
 
 cd "$root" || exit 2
-if ! log=$(rt staticlib exports 2>&1); then
-  echo "$log"
-  exit 2
-fi
+for name in exports plan_exports; do
+  if ! log=$(rt staticlib "$name" 2>&1); then
+    echo "$log"
+    exit 2
+  fi
+done
 export EXPORTS="$root/target/staticlib"
 cd "$here" || exit 2
 if ! cargo build --release --offline --quiet; then

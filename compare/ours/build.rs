@@ -1,9 +1,11 @@
-//! Links libexports.a, which `rt staticlib exports` writes; the scripts say where it is.
+//! Links the libraries that `rt staticlib` writes; the scripts say where they are.
 
 fn main() {
     println!("cargo:rerun-if-env-changed=EXPORTS");
-    let folder = std::env::var("EXPORTS").expect("EXPORTS names the folder of libexports.a");
+    let folder = std::env::var("EXPORTS").expect("EXPORTS names the folder of the libraries");
     println!("cargo:rustc-link-search=native={folder}");
-    println!("cargo:rustc-link-lib=static=exports");
-    println!("cargo:rerun-if-changed={folder}/libexports.a");
+    for name in ["exports", "plan_exports"] {
+        println!("cargo:rustc-link-lib=static={name}");
+        println!("cargo:rerun-if-changed={folder}/lib{name}.a");
+    }
 }

@@ -1,27 +1,34 @@
 //! The plan: open, create, grow, publish, drop, cap and locate, and all that is seen of it after each
-//! call. The model, written from document 01, is held against a plan over the Rust's own parts.
+//! call. The model, written from document 01, is held against a plan over the Rust's own parts, and
+//! against ours.
 
 mod bench;
 mod call;
 mod draw;
+mod each;
 mod inplace;
 mod limits;
 mod listing;
+mod many;
 mod mistake;
 mod model;
+mod ours;
 mod planted;
 mod records;
+mod sample;
 mod sequence;
 mod side;
 mod spoil;
 mod tally;
 
 pub use bench::bench;
+pub use sample::sample;
 
 use crate::random::Random;
 use crate::shrink::brief;
 use inplace::InPlace;
 use model::Model;
+use ours::Ours;
 use sequence::Case;
 use side::{Maker, Pair, Side};
 use tally::Tally;
@@ -37,8 +44,12 @@ fn in_place() -> Box<dyn Side> {
     Box::new(InPlace::new())
 }
 
+fn ours() -> Box<dyn Side> {
+    Box::new(Ours::new())
+}
+
 /// The sides that are held against the model.
-const OTHERS: [(&str, Maker<'static>); 1] = [("the plan in place", &in_place)];
+const OTHERS: [(&str, Maker<'static>); 2] = [("the plan in place", &in_place), ("ours", &ours)];
 
 fn pair(other: (&'static str, Maker<'static>)) -> Pair<'static> {
     Pair {
@@ -88,6 +99,9 @@ pub fn compare(random: &mut Random) -> Result<usize, String> {
     let mut sides = vec![("the model", &model as Maker)];
     sides.extend(OTHERS);
     compared += listing::compare(&sides)?;
+    let each = each::compare(&mut Random::new(seed))?;
+    println!("ours one after another: {each} calls as the single ones");
+    compared += each;
     planted::compare(seed)?;
     Ok(compared)
 }

@@ -1,8 +1,10 @@
-//! The Rattle functions of crates/exports. No call asks anything of its caller, so each has a safe form.
+//! The Rattle functions of crates/exports and crates/plan_exports. No call asks anything of its caller,
+//! so each has a safe form.
 
 pub mod accounts;
 pub mod free;
 pub mod map;
+pub mod plan;
 pub mod settle;
 
 #[repr(C)]

@@ -3,32 +3,28 @@ use Prim.Native.Nat.{ℕ, _+_}
 use mathlib.Core.Bool.{Bool, true, false, cond}
 use mathlib.Core.List.{List, [], _∷_}
 use mathlib.Core.Path.{_≡_}
-use lib.ListN.{length, getD, drop, set}
 use lib.Dec.{ltb}
+use lib.ListN.{length, getD, drop, set}
 use Rattle.accounting.specs.Entries.{Usage}
-use Rattle.tagspace.specs.Row.{addUsage, removeUsage}
 use Rattle.accounting.specs.Table.{Posts, Asks, onRow}
 use Rattle.accounting.specs.declared.Accounting.{Accounting}
 use Rattle.accounting.specs.declared.Asked.{Asked}
 use Rattle.accounting.specs.declared.Posted.{Posted}
-use Rattle.tagspace.specs.declared.TagSpace.{TagSpace}
 use Rattle.exports.specs.Accounts.{FlatPosts}
 use Rattle.exports.specs.Flat.{mapOr}
 use Rattle.exports.specs.declared.FlatAnswer.{FlatAnswer}
-use Rattle.exports.specs.declared.accounts.FlatAccounting.{FlatAccounting}
 use Rattle.exports.specs.declared.accounts.FlatPosted.{FlatPosted}
+use Rattle.flat.specs.Chain.{Chain}
+use Rattle.flat.specs.declared.FlatAccounting.{FlatAccounting}
 use Rattle.numbers.specs.Range.{Range}
 use Rattle.regionmap.specs.Map.{Published, Extended, Answered}
 use Rattle.regionmap.specs.declared.Located.{Located}
-use Rattle.regionmap.specs.declared.Located.the-variants as located
 use Rattle.regionmap.specs.declared.Mapped.{Mapped}
 use Rattle.regionmap.specs.declared.Mapped.the-variants.{Map, Refused}
 use Rattle.regionmap.specs.declared.RegionMap.{RegionMap}
-
--- Each x leads from the state that the last one left to the next.
-abbrev pub Chain : {X S : Type 0} → (X → S → S → Type 0) → List X → S → S → Type 0
-Chain R [] s t = s ≡ t
-Chain {S = S} R (x ∷ xs) s t = (u : S) × R x s u × Chain R xs u t
+use Rattle.tagspace.specs.Row.{addUsage, removeUsage}
+use Rattle.tagspace.specs.declared.TagSpace.{TagSpace}
+use Rattle.regionmap.specs.declared.Located.the-variants as located
 
 -- ---- the region map
 

@@ -1,19 +1,17 @@
 -- Answers as flat numbers, and records from them.
 use Prim.Native.Nat.{ℕ}
-use mathlib.Core.Bool.{Bool, cond}
+use mathlib.Core.Bool.{Bool}
 use mathlib.Core.List.{List, []}
 use mathlib.Core.Option.{Option, none, some}
 use mathlib.Core.Path.{_≡_}
-use lib.Dec.{eqb}
 use lib.ListN.{length, getD}
 use Rattle.exports.specs.declared.FlatAnswer.{FlatAnswer}
 use Rattle.exports.specs.declared.FlatOption.{FlatOption}
+use Rattle.flat.specs.Flat.{kindOf}
 use Rattle.footprint.specs.Footprint.{Checked}
 use Rattle.footprint.specs.declared.Entry.{Entry}
 use Rattle.footprint.specs.declared.Header.{Header}
 use Rattle.footprint.specs.declared.Limits.{Limits}
-use Rattle.footprint.specs.declared.RegionKind.{RegionKind}
-use Rattle.footprint.specs.declared.RegionKind.the-variants.{Append, Page, Slot}
 use Rattle.freemap.specs.Gaps.{answerOf}
 use Rattle.freemap.specs.declared.Complement.{Complement}
 use Rattle.freemap.specs.declared.FreeMap.{FreeMap}
@@ -40,10 +38,6 @@ pub record FlatAnswers (P : Answer ℕ → Type 0) (r : FlatAnswer) : Type 0 whe
   pub answer : Answer ℕ
   pub promise : P answer
   pub flat : r ≡ flatAnswer answer
-
--- The kind that has a number in the table; Append where none has.
-unfoldable pub kindOf : ℕ → RegionKind
-kindOf n = cond (eqb n 3) Slot (cond (eqb n 2) Page Append)
 
 abbrev pub limitsOf : ℕ → ℕ → ℕ → Limits
 limitsOf log2 table file = record { «log2_block» = log2; «table_end» = table; «file_len» = file }

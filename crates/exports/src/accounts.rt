@@ -3,7 +3,13 @@ use crate::FlatAnswer;
 use crate::FlatOption;
 use accounting::Accounting;
 use accounting::Posted;
-use tagspace::Cap;
+use flat::FlatAccounting;
+use flat::FlatRow;
+use flat::accounts_from;
+use flat::cap_from;
+use flat::flat_accounts;
+use flat::flat_row;
+use flat::row_from;
 use tagspace::ExtentLen;
 use tagspace::TagSpace;
 ghost use mathlib.Core.Path.{_≡_};
@@ -14,24 +20,8 @@ ghost use Rattle.tagspace.specs.Row.{blank, addUsage, removeUsage, reserve, unr
 ghost use Rattle.accounting.specs.Table.{Valid, Posts, Asks, accountsOf, tableOf, onRow, reserving, unreserving, rowOf};
 ghost use Rattle.exports.specs.Each.{PostsEach, questions, AsksEach};
 ghost use Rattle.exports.specs.Flat.{flatOf};
-ghost use Rattle.exports.specs.Accounts.{capFrom, rowFrom, accountsFrom, flatRow, flatAccounts, flatPosted, FlatPosts, FlatAsks};
-
-#[repr(C)]
-pub struct FlatRow {
-    pub tag: u32,
-    pub capped: bool,
-    pub logical: u64,
-    pub physical: u64,
-    pub reserved: u64,
-    pub cap: u64,
-}
-
-#[repr(C)]
-pub struct FlatAccounting {
-    pub rows: [FlatRow; 96],
-    pub count: usize,
-    pub reserved: u64,
-}
+ghost use Rattle.flat.specs.Flat.{capFrom, rowFrom, accountsFrom, flatRow, flatAccounts};
+ghost use Rattle.exports.specs.Accounts.{flatPosted, FlatPosts, FlatAsks};
 
 #[repr(C)]
 pub struct FlatPosted {
@@ -44,85 +34,6 @@ pub struct FlatAsked {
     pub refusal: u64,
     pub fits: bool,
     pub accounts: FlatAccounting,
-}
-
-fn cap_from(capped: bool, limit: u64) -> Cap
-    ensures { λ r. ⌜ r ≡ capFrom capped limit ⌝ }
-{
-    if capped {
-        return Cap::Limit(limit);
-    }
-    Cap::Nothing
-}
-
-fn row_from(row: FlatRow) -> TagSpace
-    ensures { λ r. ⌜ r ≡ rowFrom row ⌝ }
-{
-    let cap = cap_from(row.capped, row.cap);
-    TagSpace {
-        tag: row.tag,
-        logical: row.logical,
-        physical: row.physical,
-        reserved: row.reserved,
-        cap,
-    }
-}
-
-fn accounts_from(flat: FlatAccounting) -> Accounting
-    ensures { λ r. ⌜ r ≡ accountsFrom flat ⌝ }
-{
-    let mut accounts = Accounting::empty();
-    let mut i = 0;
-    while i < 96 {
-        let row = flat.rows[i];
-        accounts.rows[i] = row_from(row);
-        i += 1;
-    }
-    accounts.count = flat.count;
-    accounts.reserved = flat.reserved;
-    accounts
-}
-
-fn flat_row(row: TagSpace) -> FlatRow
-    ensures { λ r. ⌜ r ≡ flatRow row ⌝ }
-{
-    let cap = row.cap;
-    match cap {
-        Cap::Limit(limit) => FlatRow {
-            tag: row.tag,
-            capped: true,
-            logical: row.logical,
-            physical: row.physical,
-            reserved: row.reserved,
-            cap: limit,
-        },
-        Cap::Nothing => FlatRow {
-            tag: row.tag,
-            capped: false,
-            logical: row.logical,
-            physical: row.physical,
-            reserved: row.reserved,
-            cap: 0,
-        },
-    }
-}
-
-fn flat_accounts(accounts: Accounting) -> FlatAccounting
-    ensures { λ r. ⌜ r ≡ flatAccounts accounts ⌝ }
-{
-    let none = flat_row(TagSpace::blank(0));
-    let mut flat = FlatAccounting {
-        rows: [none; 96],
-        count: accounts.count,
-        reserved: accounts.reserved,
-    };
-    let mut i = 0;
-    while i < 96 {
-        let row = accounts.rows[i];
-        flat.rows[i] = flat_row(row);
-        i += 1;
-    }
-    flat
 }
 
 fn flat_posted(posted: Posted) -> FlatPosted

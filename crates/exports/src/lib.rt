@@ -6,10 +6,10 @@ mod map;
 mod settlement;
 
 use align::Aligned;
+use flat::kind_of;
 use footprint::Entry;
 use footprint::Header;
 use footprint::Limits;
-use footprint::RegionKind;
 use footprint::Verdict;
 use runs::RunCount;
 ghost use mathlib.Core.Path.{_≡_};
@@ -18,7 +18,7 @@ ghost use Rattle.sort.specs.Sort.{Sorted};
 ghost use Rattle.numbers.specs.Range.{range};
 ghost use Rattle.footprint.specs.Footprint.{maxExtents, answerOf, Filled};
 ghost use Rattle.runs.specs.Runs.{Listed, countOf};
-ghost use Rattle.exports.specs.Flat.{flatOf, flatAnswer, kindOf, limitsOf, entryOf, headerOf, Told, FlatTold, FlatAnswers, FlatChecked};
+ghost use Rattle.exports.specs.Flat.{flatOf, flatAnswer, limitsOf, entryOf, headerOf, Told, FlatTold, FlatAnswers, FlatChecked};
 
 // A number or none: some is 1 or 0, and value is 0 where there is none.
 #[repr(C)]
@@ -57,19 +57,6 @@ pub extern "C" fn fundravai_max_extents(log2: u8) -> usize
     ensures { λ r. ⌜ r ≡ maxExtents log2 ⌝ }
 {
     footprint::max_extents(log2)
-}
-
-// The kind that has a number in the table.
-fn kind_of(code: u8) -> RegionKind
-    ensures { λ r. ⌜ r ≡ kindOf code ⌝ }
-{
-    if code == 3 {
-        return RegionKind::Slot;
-    }
-    if code == 2 {
-        return RegionKind::Page;
-    }
-    RegionKind::Append
 }
 
 fn entry_of(

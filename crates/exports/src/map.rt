@@ -7,7 +7,8 @@ use regionmap::Mapped;
 use regionmap::RegionMap;
 ghost use Rattle.regionmap.specs.Map.{Made, Roomed, Published, Extended, Written};
 ghost use Rattle.numbers.specs.Pairs.{pairs};
-ghost use Rattle.exports.specs.Each.{Chain, Extend, extending, Publish, publishing, LocatedEach};
+ghost use Rattle.flat.specs.Chain.{Chain};
+ghost use Rattle.exports.specs.Each.{Extend, extending, Publish, publishing, LocatedEach};
 ghost use Rattle.exports.specs.Flat.{mapFrom, HandedOut, FlatAnswers, FlatMapped, FlatPlace};
 
 // Writes a map into the lent numbers; answers document 01's refusal, 0 where there is none.

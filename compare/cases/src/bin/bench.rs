@@ -1,4 +1,4 @@
-//! Times both sides on the same inputs in one run. Argument: a seed.
+//! Times both sides on the same inputs in one run. Arguments: a seed, and a module if not all are timed.
 
 use cases::random::{Random, SEED};
 use cases::{accounting, align, footprint, freemap, plan, regionmap, settle, sort, table};
@@ -7,13 +7,21 @@ fn main() {
     let seed = std::env::args()
         .nth(1)
         .map_or(SEED, |a| a.parse().expect("the seed is a number"));
+    let modules: [(&str, fn(&mut Random)); 8] = [
+        ("align", align::bench),
+        ("sort", sort::bench),
+        ("footprint", footprint::bench),
+        ("regionmap", regionmap::bench),
+        ("settle", settle::bench),
+        ("freemap", freemap::bench),
+        ("accounting", accounting::bench),
+        ("plan", plan::bench),
+    ];
+    let only = std::env::args().nth(2);
     table::head();
-    align::bench(&mut Random::new(seed));
-    sort::bench(&mut Random::new(seed));
-    footprint::bench(&mut Random::new(seed));
-    regionmap::bench(&mut Random::new(seed));
-    settle::bench(&mut Random::new(seed));
-    freemap::bench(&mut Random::new(seed));
-    accounting::bench(&mut Random::new(seed));
-    plan::bench(&mut Random::new(seed));
+    for (name, bench) in modules {
+        if only.as_ref().is_none_or(|only| only == name) {
+            bench(&mut Random::new(seed));
+        }
+    }
 }

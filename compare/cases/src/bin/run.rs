@@ -1,4 +1,4 @@
-//! Runs both sides on the same inputs. Argument: a seed.
+//! Runs both sides on the same inputs. Arguments: a seed, and a module if not all are run.
 
 use cases::random::{Random, SEED};
 use cases::{accounting, align, footprint, freemap, plan, regionmap, settle, sort};
@@ -21,7 +21,11 @@ fn main() -> ExitCode {
         ("accounting", accounting::compare),
         ("plan", plan::compare),
     ];
+    let only = std::env::args().nth(2);
     for (name, compare) in modules {
+        if only.as_ref().is_some_and(|only| only != name) {
+            continue;
+        }
         match compare(&mut Random::new(seed)) {
             Ok(cases) => println!("{name}: {cases} cases, no difference"),
             Err(difference) => {

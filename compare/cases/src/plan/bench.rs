@@ -1,6 +1,9 @@
-//! The plan's times, a column for each side.
+//! The plan's times, a column for each side. A single call of ours goes over the border: its plan is
+//! turned from flat numbers and back. Calls one after another go over it once.
 
-use super::call::{APPEND, EXTENTS, Entry, Header, Name, Opening, Places, REGIONS, Record};
+use super::call::{APPEND, Call, EXTENTS, Entry, Header, Name, Opening, Places, REGIONS, Record};
+use super::many::Many;
+use super::ours::Ours;
 use super::records::LONGEST;
 use super::sequence::{Told, name, named};
 use super::side::{Maker, Side};
@@ -10,9 +13,16 @@ use crate::table::median;
 use std::cell::RefCell;
 use std::hint::black_box;
 
+fn ours() -> Box<dyn Side> {
+    Box::new(Ours::timed())
+}
+
 /// The sides that are timed.
-const SIDES: [(&str, Maker<'static>); 2] =
-    [("model", &super::model), ("in place", &super::in_place)];
+const SIDES: [(&str, Maker<'static>); 3] = [
+    ("model", &super::model),
+    ("in place", &super::in_place),
+    ("ours", &ours),
+];
 
 const BLOCK: u64 = 4096;
 
@@ -94,6 +104,55 @@ fn once(
     )
 }
 
+/// One of these calls, made one after another.
+fn each(make: Maker, opening: &Opening, calls: &[Call]) -> f64 {
+    let many = Many::new(calls.to_vec());
+    let mut side = opened(make, opening);
+    let all = |_: &mut ()| assert_eq!(side.many(&many), calls.len() as u64);
+    median(11, || (), all) / calls.len() as f64
+}
+
+/// Calls one after another on n regions, or beside one less.
+fn one_after_another(n: usize, random: &mut Random) {
+    let full = opening(&vec![EXTENTS; n]);
+    let others = opening(&vec![EXTENTS; n - 1]);
+    let id = 1000;
+    let create = Call::Create {
+        id,
+        tag: 1000,
+        name: name(named(1000, 16)),
+    };
+    let grows = vec![Call::Grow { id }; EXTENTS];
+    let pairs = vec![[create.clone(), Call::Drop { id }]; 50].concat();
+    let grown = [vec![create], grows, vec![Call::Drop { id }]].concat();
+    row(&format!("  create and drop beside {}", n - 1), |make| {
+        each(make, &others, &pairs)
+    });
+    row(
+        &format!("  create, 60 grows, drop beside {}", n - 1),
+        |make| each(make, &others, &grown),
+    );
+    let published: Vec<_> = (0..1000)
+        .map(|k| Call::Publish {
+            id: n as u64 / 2,
+            len: k % (EXTENTS as u64 + 1) * BLOCK,
+        })
+        .collect();
+    row(&format!("  publish in {n}"), |make| {
+        each(make, &full, &published)
+    });
+    let located: Vec<_> = (0..1000)
+        .map(|_| Call::Locate {
+            id: random.below(n as u64),
+            pos: random.below(EXTENTS as u64 * BLOCK),
+            n: 1,
+        })
+        .collect();
+    row(&format!("  locate in {n}"), |make| {
+        each(make, &full, &located)
+    });
+}
+
 fn regions(n: usize, random: &mut Random) {
     let full = opening(&vec![EXTENTS; n]);
     let others = opening(&vec![EXTENTS; n - 1]);
@@ -153,10 +212,30 @@ fn regions(n: usize, random: &mut Random) {
     });
 }
 
+/// What a call of ours costs that does nothing else.
+fn border() {
+    let full = opening(&[EXTENTS; REGIONS]);
+    row("last number: a plan goes over", |make| {
+        one(&mut *opened(make, &full), 20, |side, _| {
+            black_box(side.last_number());
+        })
+    });
+    row("publish of an unknown region: there and back", |make| {
+        one(&mut *opened(make, &full), 20, |side, _| {
+            assert!(!side.publish(black_box(1 << 40), 0).accepted());
+        })
+    });
+}
+
 pub fn bench(random: &mut Random) {
     head();
     for n in [1, 8, REGIONS] {
         regions(n, random);
+    }
+    border();
+    println!("one after another, regions of 60 extents: a call");
+    for n in [1, 8, REGIONS] {
+        one_after_another(n, random);
     }
     for (name, extents) in [("no", 0), ("60", EXTENTS)] {
         let opening = opening(&[extents; REGIONS]);

@@ -1,7 +1,7 @@
 //! An open and a list of calls in numbers, run on two sides, and made as small as it can.
 
 use super::call::{Answer, Call, Entry, Header, Limits, Name, Opening, Places, Record};
-use super::side::{Pair, View};
+use super::side::{Pair, Side, View};
 use crate::shrink::{deadline, places, shrink_until};
 use std::collections::BTreeSet;
 use std::time::Instant;
@@ -210,7 +210,12 @@ pub fn call(told: &[u64]) -> (Call, Places) {
         },
         _ => Call::Locate { id, pos: b, n: c },
     };
-    (call, lent(told[4]))
+    let mut lent = lent(told[4]);
+    if matches!(call, Call::Locate { .. }) {
+        // it is lent no extents
+        lent.extents = Places::ALL.extents;
+    }
+    (call, lent)
 }
 
 /// Something asked, what was seen before, the answer, and what is seen afterwards.
@@ -238,6 +243,17 @@ fn answered(calls: usize, answers: [Answer; 2]) -> Result<(), Difference> {
     Err(Difference { calls, texts })
 }
 
+/// A side wrote what it must not.
+fn kept(calls: usize, side: &mut dyn Side) -> Result<(), Difference> {
+    match side.trespass() {
+        Some(text) => Err(Difference {
+            calls,
+            texts: [String::from("its lists"), text],
+        }),
+        None => Ok(()),
+    }
+}
+
 fn seen(calls: usize, views: [&View; 2]) -> Result<(), Difference> {
     match views[0].differs(views[1]) {
         Some(texts) => Err(Difference { calls, texts }),
@@ -261,6 +277,7 @@ impl Case {
         let mut tags: BTreeSet<u32> = opening.records.iter().map(|r| r.tag).collect();
         let answer = due.open(&opening);
         answered(0, [answer, other.open(&opening)])?;
+        kept(0, &mut *other)?;
         let mut before = View::default();
         if answer.accepted() {
             before = due.view(&tags);
@@ -284,6 +301,7 @@ impl Case {
             }
             let answer = due.ask(&call, lent);
             answered(k + 1, [answer, other.ask(&call, lent)])?;
+            kept(k + 1, &mut *other)?;
             let after = due.view(&tags);
             seen(k + 1, [&after, &other.view(&tags)])?;
             if !answer.accepted() {

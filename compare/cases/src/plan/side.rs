@@ -1,6 +1,7 @@
 //! A side of the comparison: a plan that is opened and called, and what is seen of it.
 
 use super::call::{Answer, Call, Opening, Places, Range, Record};
+use super::many::Many;
 use std::collections::BTreeSet;
 
 /// A plan. Before an accepted open no call and no reader is asked. A refused call changes nothing.
@@ -22,6 +23,20 @@ pub trait Side {
     fn count(&self) -> usize;
     /// Region i below the count, in any order that is the side's own, and its committed extents.
     fn region(&self, i: usize) -> (Record, Vec<Range>);
+
+    /// What the last call wrote that it must not.
+    fn trespass(&mut self) -> Option<String> {
+        None
+    }
+
+    /// Makes calls one after another with all places lent; answers how many are accepted.
+    fn many(&mut self, many: &Many) -> u64 {
+        let mut accepted = 0;
+        for call in &many.calls {
+            accepted += u64::from(self.ask(call, Places::ALL).accepted());
+        }
+        accepted
+    }
 
     fn ask(&mut self, call: &Call, lent: Places) -> Answer {
         match *call {

@@ -1,7 +1,7 @@
 -- `exports::accounts::fundravai_accounts_empty` meets its contract: the empty accounts are turned.
 use mathlib.Core.Path.{ap, _∙_}
 use borrow.Author.Needs.{needs}
-use Rattle.exports.specs.Accounts.{flatAccounts}
+use Rattle.flat.specs.Flat.{flatAccounts}
 use Rattle.exports.proofs.accounts.fundravai_accounts_empty.Statement.{statement}
 use Rattle.exports.proofs.accounts.fundravai_accounts_empty.Tie as tie
 

@@ -1,24 +1,18 @@
 -- `exports::accounts::fundravai_accounts_fits_each` meets its contract: each turn is one question.
-use borrow.Author.Needs.{needs}
-use native.Mathlib.Omega.{arith}
 use Prim.Native.Nat.{ℕ, _+_, _-_, _≤_}
-use mathlib.Core.Path.{_≡_, refl, ap, sym, _∙_}
-use mathlib.Core.Bool.{Bool, false, cond}
+use mathlib.Core.Bool.{Bool, false}
+use mathlib.Core.Path.{refl, ap}
+use native.Mathlib.Omega.{arith}
 use lib.ListN.{length, drop}
+use borrow.Author.Needs.{needs}
 use borrow.Author.Tests.{eq-eqb, ne-eqb}
-use mir.Val.{boolByte}
 use Rattle.accounting.specs.Entries.{differ}
-use Rattle.numbers.proofs.Cases.{cases, clash}
 use Rattle.exports.specs.Each.{Ask, asking, questions}
-use Rattle.exports.proofs.Chaining.{questions-next, questions-end, Going, going-begins, going-on, going-ends}
+use Rattle.exports.proofs.Chaining.{questions-next, questions-end}
 use Rattle.exports.proofs.accounts.fundravai_accounts_fits_each.Statement.{statement}
+use Rattle.flat.proofs.Chaining.{bit-is, bit-low, Going, going-begins, going-on, going-ends}
+use Rattle.numbers.proofs.Cases.{clash}
 use Rattle.exports.proofs.accounts.fundravai_accounts_fits_each.Tie as tie
-
-bit-is : (b : Bool) → boolByte b ≡ cond b 1 0
-bit-is b = cases b (λ e. rw e refl) (λ e. rw e refl)
-
-bit-low : (b : Bool) → boolByte b ≤ 1
-bit-low b = cases b (λ e. rw e (omega arith)) (λ e. rw e (omega arith))
 
 abbrev Inv-loop : tie.InvT-loop
 Inv-loop tags extra accounts₀ refusal₀ fit₀ i₀ accounts refusal fit i = (i ≤ length tags) × (fit ≤ i) × ((f : Bool) × Going Ask (questions tags extra) (asking 0 false accounts₀ 0) (questions (drop i tags) (drop i extra)) (asking refusal f accounts fit))

@@ -12,8 +12,8 @@ use Rattle.accounting.specs.declared.Accounting.{Accounting}
 use Rattle.accounting.specs.declared.Posted.{Posted}
 use Rattle.exports.specs.Each.{Post, posted}
 use Rattle.accounting.proofs.Counting.{usages-next, usages-end}
-use Rattle.exports.proofs.Chaining.{Going, going-begins, going-on, going-ends}
 use Rattle.exports.proofs.accounts.fundravai_accounts_post_each.Statement.{statement}
+use Rattle.flat.proofs.Chaining.{Going, going-begins, going-on, going-ends}
 use Rattle.numbers.proofs.Cases.{clash}
 use Rattle.exports.proofs.accounts.fundravai_accounts_post_each.Tie as tie
 

@@ -1,7 +1,7 @@
 -- `exports::accounts::fundravai_accounts_row_at` meets its contract: the leaf's promise of the accounts from flat numbers.
 use mathlib.Core.Path.{ap, _∙_}
 use borrow.Author.Needs.{needs}
-use Rattle.exports.specs.Accounts.{flatRow}
+use Rattle.flat.specs.Flat.{flatRow}
 use Rattle.exports.proofs.accounts.fundravai_accounts_row_at.Statement.{statement}
 use Rattle.exports.proofs.accounts.fundravai_accounts_row_at.Tie as tie
 

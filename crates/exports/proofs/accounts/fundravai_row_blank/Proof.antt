@@ -1,7 +1,7 @@
 -- `exports::accounts::fundravai_row_blank` meets its contract: a blank row, turned.
 use mathlib.Core.Path.{ap, _∙_}
 use borrow.Author.Needs.{needs}
-use Rattle.exports.specs.Accounts.{flatRow}
+use Rattle.flat.specs.Flat.{flatRow}
 use Rattle.exports.proofs.accounts.fundravai_row_blank.Statement.{statement}
 use Rattle.exports.proofs.accounts.fundravai_row_blank.Tie as tie
 

@@ -6,8 +6,9 @@ use lib.ListN.{length, drop}
 use borrow.Author.Needs.{needs}
 use Rattle.exports.specs.Each.{Extend, extending}
 use Rattle.numbers.specs.Pairs.{pairs}
-use Rattle.exports.proofs.Chaining.{pairs-next, pairs-end, Going, going-begins, going-on, going-ends}
+use Rattle.exports.proofs.Chaining.{pairs-next, pairs-end}
 use Rattle.exports.proofs.map.fundravai_map_extend_each.Statement.{statement}
+use Rattle.flat.proofs.Chaining.{Going, going-begins, going-on, going-ends}
 use Rattle.exports.proofs.map.fundravai_map_extend_each.Tie as tie
 
 abbrev Inv-loop : tie.InvT-loop

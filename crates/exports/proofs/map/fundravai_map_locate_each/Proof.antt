@@ -1,17 +1,15 @@
 -- `exports::map::fundravai_map_locate_each` meets its contract: each turn is one call.
-use borrow.Author.Needs.{needs}
+use Prim.Native.Nat.{_+_, _-_, _≤_}
+use mathlib.Core.Path.{_≡_, refl}
 use native.Mathlib.Omega.{arith}
-use Prim.Native.Nat.{ℕ, _+_, _-_, _≤_}
-use mathlib.Core.Path.{_≡_, refl, ap, sym, _∙_}
-use mathlib.Core.Bool.{true, false}
-use lib.ListN.{length, drop, set, drop-of-length-le, length-set}
+use lib.ListN.{length, drop, drop-of-length-le, length-set}
+use borrow.Author.Needs.{needs}
 use borrow.Author.Tests.{lt-ltb, le-ltb}
+use Rattle.exports.specs.Each.{Locate, locating}
+use Rattle.exports.proofs.map.fundravai_map_locate_each.Statement.{statement}
+use Rattle.flat.proofs.Chaining.{Going, going-begins, going-on, going-ends}
 use Rattle.numbers.proofs.Cases.{clash}
 use Rattle.numbers.proofs.Lists.{from-here}
-use Rattle.exports.specs.Each.{Locate, locating}
-use Rattle.exports.specs.Flat.{mapFrom}
-use Rattle.exports.proofs.Chaining.{Going, going-begins, going-on, going-ends}
-use Rattle.exports.proofs.map.fundravai_map_locate_each.Statement.{statement}
 use Rattle.exports.proofs.map.fundravai_map_locate_each.Tie as tie
 
 abbrev Inv-loop : tie.InvT-loop

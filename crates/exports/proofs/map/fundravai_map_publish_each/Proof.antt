@@ -1,13 +1,13 @@
 -- `exports::map::fundravai_map_publish_each` meets its contract: each turn is one call.
-use borrow.Author.Needs.{needs}
-use native.Mathlib.Omega.{arith}
-use Prim.Native.Nat.{_+_, _-_, _≤_}
+use Prim.Native.Nat.{_-_, _≤_}
 use mathlib.Core.Path.{refl}
+use native.Mathlib.Omega.{arith}
 use lib.ListN.{length, drop, drop-of-length-le}
-use Rattle.numbers.proofs.Lists.{from-here}
+use borrow.Author.Needs.{needs}
 use Rattle.exports.specs.Each.{Publish, publishing}
-use Rattle.exports.proofs.Chaining.{Going, going-begins, going-on, going-ends}
 use Rattle.exports.proofs.map.fundravai_map_publish_each.Statement.{statement}
+use Rattle.flat.proofs.Chaining.{Going, going-begins, going-on, going-ends}
+use Rattle.numbers.proofs.Lists.{from-here}
 use Rattle.exports.proofs.map.fundravai_map_publish_each.Tie as tie
 
 abbrev Inv-loop : tie.InvT-loop
