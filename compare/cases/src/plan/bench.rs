@@ -10,6 +10,8 @@ use super::side::{Maker, Side};
 use crate::flat::flat;
 use crate::random::Random;
 use crate::table::median;
+use oracle::free::Free;
+use oracle::map::Map;
 use std::cell::RefCell;
 use std::hint::black_box;
 
@@ -28,13 +30,21 @@ const BLOCK: u64 = 4096;
 
 fn head() {
     let names = SIDES.map(|(name, _)| format!("{:>14}", format!("{name} ns")));
-    println!("\n{:<44} {}", "plan", names.join(" "));
+    println!("\n{:<44} {} {:>8}", "plan", names.join(" "), "ratio");
 }
 
-/// Times the same on each side.
+/// Times the same on each side. The ratio is ours to the plan in place.
 fn row(operation: &str, time: impl Fn(Maker) -> f64) {
-    let times = SIDES.map(|(_, make)| format!("{:>14.1}", time(make)));
-    println!("{operation:<44} {}", times.join(" "));
+    let [model, in_place, ours] = SIDES.map(|(_, make)| time(make));
+    println!(
+        "{operation:<44} {model:>14.1} {in_place:>14.1} {ours:>14.1} {:>8.2}",
+        ours / in_place
+    );
+}
+
+/// A time of the Rust's own functions, without a plan.
+fn alone(operation: &str, time: f64) {
+    println!("{operation:<44} {:>14} {time:>14.1}", "");
 }
 
 /// Regions of so many extents in a long container. Their extents stand in turn, so none join; behind
@@ -110,6 +120,51 @@ fn each(make: Maker, opening: &Opening, calls: &[Call]) -> f64 {
     let mut side = opened(make, opening);
     let all = |_: &mut ()| assert_eq!(side.many(&many), calls.len() as u64);
     median(11, || (), all) / calls.len() as f64
+}
+
+/// What the Rust's own functions take for a place and for a byte in n regions: `complement` and
+/// `first_fit` on the ranges that they hold, and a search among their numbers with `locate` of a map.
+fn without_a_plan(n: usize, random: &mut Random) {
+    let full = opening(&vec![EXTENTS; n]);
+    let side = opened(&super::in_place, &full);
+    let regions: Vec<_> = (0..n).map(|i| side.region(i)).collect();
+    let held: Vec<_> = regions
+        .iter()
+        .flat_map(|(record, extents)| {
+            let Entry {
+                header_a, header_b, ..
+            } = record.entry;
+            [(header_a, BLOCK), (header_b, BLOCK)]
+                .into_iter()
+                .chain(extents.iter().copied())
+        })
+        .collect();
+    let place = |held: &mut Vec<_>| {
+        let free = Free::complement(BLOCK, LONGEST, held);
+        assert!(black_box(free.first_fit(2 * BLOCK, BLOCK, 0)).is_some());
+    };
+    alone(
+        &format!("  Rust's complement and first fit, {n}"),
+        median(31, || held.clone(), place),
+    );
+    let numbers: Vec<u64> = regions.iter().map(|(record, _)| record.number).collect();
+    let maps: Vec<_> = regions
+        .iter()
+        .map(|(record, extents)| Map::from_extents(extents, record.entry.data_size))
+        .collect();
+    let asked: Vec<(u64, u64)> = (0..1000)
+        .map(|_| (random.below(n as u64), random.below(EXTENTS as u64 * BLOCK)))
+        .collect();
+    let all = |_: &mut ()| {
+        for &(id, pos) in &asked {
+            let i = numbers.iter().position(|&number| number == id);
+            black_box(maps[i.expect("the number is there")].locate(pos, 1));
+        }
+    };
+    alone(
+        &format!("  Rust's locate and a search among {n}"),
+        median(11, || (), all) / asked.len() as f64,
+    );
 }
 
 /// Calls one after another on n regions, or beside one less.
@@ -200,6 +255,16 @@ fn regions(n: usize, random: &mut Random) {
             assert!(side.locate(id, pos, 1, Places::ALL).accepted());
         })
     });
+    row(&format!("cap in {of}"), |make| {
+        one(&mut *opened(make, &full), 20, |side, k| {
+            assert!(side.cap(id as u32, Some(LONGEST - k)).accepted());
+        })
+    });
+    row(&format!("totals of a tag in {of}"), |make| {
+        one(&mut *opened(make, &full), 20, |side, _| {
+            black_box(side.totals(black_box(id as u32)));
+        })
+    });
     row(&format!("held of {of}"), |make| {
         one(&mut *opened(make, &full), 20, |side, _| {
             black_box(side.held());
@@ -236,6 +301,7 @@ pub fn bench(random: &mut Random) {
     println!("one after another, regions of 60 extents: a call");
     for n in [1, 8, REGIONS] {
         one_after_another(n, random);
+        without_a_plan(n, random);
     }
     for (name, extents) in [("no", 0), ("60", EXTENTS)] {
         let opening = opening(&[extents; REGIONS]);
