@@ -277,6 +277,22 @@ fn regions(n: usize, random: &mut Random) {
     });
 }
 
+/// A copy of a plan as flat numbers; ours by value is some 6 parts in 100 longer. `locate` makes two of
+/// them, a call that hands the plan back 6 to 9.
+fn copied() {
+    let plan = vec![7u8; size_of::<ours::plan::Plan>()];
+    let mut to = plan.clone();
+    let all = |_: &mut ()| {
+        for _ in 0..1000 {
+            to.copy_from_slice(black_box(&plan));
+            black_box(&mut to);
+        }
+    };
+    let time = median(11, || (), all) / 1000.0;
+    let of = format!("a copy of {} bytes", plan.len());
+    println!("{of:<44} {:>14} {:>14} {time:>14.1}", "", "");
+}
+
 /// What a call of ours costs that does nothing else.
 fn border() {
     let full = opening(&[EXTENTS; REGIONS]);
@@ -298,6 +314,7 @@ pub fn bench(random: &mut Random) {
         regions(n, random);
     }
     border();
+    copied();
     println!("one after another, regions of 60 extents: a call");
     for n in [1, 8, REGIONS] {
         one_after_another(n, random);
