@@ -39,7 +39,7 @@ blankRecord =
       header = record { «region_id» = 0; kind = Append; flags = 0; ready = true; «log2_block» = 0; «extent_count» = 0 };
     }
 
--- A region as open's own record: `handed-again` (proofs/Handing) says that open makes the same region of it.
+-- A region as open's own record: `handed-again` (proofs/Filing) says that open makes the same region of it.
 abbrev pub handedFrom : region.Region → model.Record
 handedFrom r =
     record {
