@@ -1,4 +1,6 @@
 // Usage by tag: the rows of all tags in one record.
+#![tactic(auto)]
+
 mod entries;
 mod posting;
 mod table;
@@ -19,7 +21,7 @@ pub(crate) const TOP: u64 = 0xffff_ffff_ffff_ffff;
 pub(crate) const MOST: usize = 96;
 
 // The accounts of all tags. Rows stand in tag order; those at and past the count are blank.
-#[derive(Drop)]
+#[derive(Clone, Copy)]
 pub struct Accounting {
     pub rows: [TagSpace; 96],
     pub count: usize,
@@ -29,14 +31,14 @@ pub struct Accounting {
 
 // Document 01's refusal, 0 where there is none, and the accounts. A refused posting hands them back as
 // they were, a refused list those of no tag.
-#[derive(Drop)]
+#[derive(Clone, Copy)]
 pub struct Posted {
     pub refusal: u64,
     pub accounts: Accounting,
 }
 
 // The same of a question, and whether the bytes fit.
-#[derive(Drop)]
+#[derive(Clone, Copy)]
 pub struct Asked {
     pub refusal: u64,
     pub fits: bool,

@@ -4,7 +4,7 @@ ghost use Rattle.accounting.specs.Inner.{posted};
 
 use tagspace::{Cap, TagSpace};
 
-#[derive(Drop)]
+#[derive(Clone, Copy)]
 pub(crate) enum Posting {
     AddUsage(u64, u64),
     RemoveUsage(u64, u64),

@@ -9,7 +9,7 @@ use numbers::advance;
 use tagspace::TagSpace;
 
 // Whether a tag has a row, and where: the place of its row, or else the place where it belongs.
-#[derive(Drop)]
+#[derive(Clone, Copy)]
 pub(crate) struct Spot {
     pub(crate) known: bool,
     pub(crate) at: usize,

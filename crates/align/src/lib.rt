@@ -1,8 +1,10 @@
 // From store-io-core's align.rs.
+#![tactic(auto)]
+
 ghost use Rattle.std.specs.Prelude.{◌≡◌};
 ghost use Rattle.align.specs.Align.{answer_of, align_up};
 
-#[derive(Drop)]
+#[derive(Clone, Copy)]
 pub enum Aligned {
     At(u64),
     Nothing,

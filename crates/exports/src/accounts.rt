@@ -15,14 +15,14 @@ use flat::{FlatAccounting, FlatRow, accounts_from, cap_from, flat_accounts, flat
 use tagspace::{ExtentLen, TagSpace};
 
 #[repr(C)]
-#[derive(Drop)]
+#[derive(Clone, Copy)]
 pub struct FlatPosted {
     pub refusal: u64,
     pub accounts: FlatAccounting,
 }
 
 #[repr(C)]
-#[derive(Drop)]
+#[derive(Clone, Copy)]
 pub struct FlatAsked {
     pub refusal: u64,
     pub fits: bool,

@@ -1,5 +1,7 @@
 // Flat functions for compare/, which links them as a static library. Nothing is decided here: each
 // calls a leaf, or one after another, and promises what the leaf does of flat numbers.
+#![tactic(auto)]
+
 mod accounts;
 mod free;
 mod map;
@@ -20,7 +22,7 @@ use runs::RunCount;
 
 // A number or none: some is 1 or 0, and value is 0 where there is none.
 #[repr(C)]
-#[derive(Drop)]
+#[derive(Clone, Copy)]
 pub struct FlatOption {
     pub some: u64,
     pub value: u64,
@@ -28,7 +30,7 @@ pub struct FlatOption {
 
 // Document 01's refusal and 0, or 0 and a value.
 #[repr(C)]
-#[derive(Drop)]
+#[derive(Clone, Copy)]
 pub struct FlatAnswer {
     pub refusal: u64,
     pub value: u64,

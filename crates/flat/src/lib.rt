@@ -1,4 +1,6 @@
 // Records as flat numbers, for the crates that export functions: an exported function takes no enum.
+#![tactic(auto)]
+
 ghost use Rattle.std.specs.Prelude.{◌≡◌};
 ghost use Rattle.footprint.specs.Footprint.{kind_code};
 ghost use Rattle.flat.specs.Flat.{kind_of, cap_from, row_from, accounts_from, flat_row, flat_accounts};
@@ -9,7 +11,7 @@ use tagspace::{Cap, TagSpace};
 
 // A tag's row. Without a cap, capped is false and cap 0.
 #[repr(C)]
-#[derive(Drop)]
+#[derive(Clone, Copy)]
 pub struct FlatRow {
     pub tag: u32,
     pub capped: bool,
@@ -20,7 +22,7 @@ pub struct FlatRow {
 }
 
 #[repr(C)]
-#[derive(Drop)]
+#[derive(Clone, Copy)]
 pub struct FlatAccounting {
     pub rows: [FlatRow; 96],
     pub count: usize,

@@ -1,4 +1,6 @@
 // A plan as flat numbers, and a plan from them.
+#![tactic(auto)]
+
 mod record;
 mod region;
 
@@ -13,7 +15,7 @@ pub use region::FlatRegion;
 use region::{flat_region, region_from};
 
 #[repr(C)]
-#[derive(Drop)]
+#[derive(Clone, Copy)]
 pub struct FlatPlan {
     pub log2_block: u8,
     pub table_end: u64,
@@ -26,7 +28,7 @@ pub struct FlatPlan {
 
 // What a call answers: 0 where it is done, 1 and a byte, or 2 and document 01's refusal.
 #[repr(C)]
-#[derive(Drop)]
+#[derive(Clone, Copy)]
 pub struct FlatReply {
     pub kind: u8,
     pub value: u64,
@@ -34,7 +36,7 @@ pub struct FlatReply {
 
 // The answer, and the plan.
 #[repr(C)]
-#[derive(Drop)]
+#[derive(Clone, Copy)]
 pub struct FlatOutcome {
     pub kind: u8,
     pub value: u64,

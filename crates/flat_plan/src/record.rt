@@ -7,7 +7,7 @@ use footprint::{Entry, Header};
 use plan_record::Record;
 
 #[repr(C)]
-#[derive(Drop)]
+#[derive(Clone, Copy)]
 pub struct FlatRecord {
     pub number: u64,
     pub tag: u32,

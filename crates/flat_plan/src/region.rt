@@ -8,7 +8,7 @@ use plan_record::Region;
 use regionmap::RegionMap;
 
 #[repr(C)]
-#[derive(Drop)]
+#[derive(Clone, Copy)]
 pub struct FlatRegion {
     pub number: u64,
     pub tag: u32,

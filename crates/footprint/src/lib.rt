@@ -1,5 +1,7 @@
 // A region's footprint: the rules between a table entry, its region header and the container that
 // decide whether the region is usable, and the byte ranges it then occupies.
+#![tactic(auto)]
+
 mod extents;
 mod layout;
 mod records;
@@ -14,7 +16,7 @@ use layout::lay_out;
 use records::{block_of, entry_fails, header_refusal, held, lists_fail, logs_fail};
 
 // What a region is for.
-#[derive(Drop)]
+#[derive(Clone, Copy)]
 pub enum RegionKind {
     Append,
     Page,
@@ -22,7 +24,7 @@ pub enum RegionKind {
 }
 
 // What the check needs from the container: the log of its block, where its table ends, its length.
-#[derive(Drop)]
+#[derive(Clone, Copy)]
 pub struct Limits {
     pub log2_block: u8,
     pub table_end: u64,
@@ -30,7 +32,7 @@ pub struct Limits {
 }
 
 // A table entry.
-#[derive(Drop)]
+#[derive(Clone, Copy)]
 pub struct Entry {
     pub kind: RegionKind,
     pub flags: u8,
@@ -45,7 +47,7 @@ pub struct Entry {
 }
 
 // A region header's fixed part.
-#[derive(Drop)]
+#[derive(Clone, Copy)]
 pub struct Header {
     pub region_id: u64,
     pub kind: RegionKind,
@@ -57,7 +59,7 @@ pub struct Header {
 
 // A usable region; a usable one whose header lists an extent more than the entry, with that
 // extent's offset and length; or document 01's refusal.
-#[derive(Drop)]
+#[derive(Clone, Copy)]
 pub enum Verdict {
     Usable,
     Ahead(u64, u64),

@@ -1,5 +1,7 @@
 // Free space: the gaps that allocated ranges leave of a container, and the search for a place among
 // them, lowest address first.
+#![tactic(auto)]
+
 mod search;
 mod sum;
 mod sweep;
@@ -16,7 +18,7 @@ use sweep::sweep;
 
 // The free space of a container. Its gaps stand in a list that its holder lends to each call, as
 // pairs (offset, length) in rising order.
-#[derive(Drop)]
+#[derive(Clone, Copy)]
 pub struct FreeMap {
     // How many gaps there are.
     pub count: usize,
@@ -25,14 +27,14 @@ pub struct FreeMap {
 }
 
 // A free map, or document 01's refusal.
-#[derive(Drop)]
+#[derive(Clone, Copy)]
 pub enum Complement {
     Map(FreeMap),
     Refused(u64),
 }
 
 // A place, none, or document 01's refusal.
-#[derive(Drop)]
+#[derive(Clone, Copy)]
 pub enum Fit {
     At(u64),
     Nothing,
@@ -40,7 +42,7 @@ pub enum Fit {
 }
 
 // A number of bytes, or document 01's refusal.
-#[derive(Drop)]
+#[derive(Clone, Copy)]
 pub enum FreeBytes {
     Bytes(u64),
     Refused(u64),

@@ -14,7 +14,7 @@ use std::num::wrapping_add_u64;
 const TOP: u64 = 0xffff_ffff_ffff_ffff;
 
 // Whether a gap allows it, and the place.
-#[derive(Drop)]
+#[derive(Clone, Copy)]
 pub struct Spot {
     pub fits: bool,
     pub at: u64,

@@ -1,5 +1,7 @@
 // What the language lacks and several crates want: sums and differences that stop, a sum held against a
 // limit, the step of a halving search, and the test for a power of two.
+#![tactic(auto)]
+
 ghost use Rattle.std.specs.Prelude.{cond, ◌≡◌, ◌+◌, ◌-◌, ltb};
 ghost use Rattle.numbers.specs.Sums.{stop};
 ghost use Rattle.numbers.specs.Powers.{is_power_of_two};

@@ -33,7 +33,7 @@ pub(crate) fn step_at(n: usize) -> u64
 }
 
 // Where a piece goes, if it has a place.
-#[derive(Drop)]
+#[derive(Clone, Copy)]
 pub(crate) struct Room {
     pub found: bool,
     pub at: u64,

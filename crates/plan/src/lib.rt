@@ -1,5 +1,7 @@
 // The calls on a plan. A plan is its record and the lists that its holder lends to each call, as the
 // last call left them.
+#![tactic(auto)]
+
 mod inner;
 
 ghost use Rattle.std.specs.Prelude.{◌≡◌};

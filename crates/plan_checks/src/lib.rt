@@ -1,5 +1,7 @@
 // Open's refusals 1 to 14: what is tested over all records, each record's own check, and that no two
 // share a number.
+#![tactic(auto)]
+
 mod each;
 mod lists;
 mod shared;

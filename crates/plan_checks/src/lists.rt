@@ -11,7 +11,7 @@ use plan_record::Record;
 
 // Whether every count is within its limit, and then how many extents the headers list and how many
 // ranges the footprints have.
-#[derive(Drop)]
+#[derive(Clone, Copy)]
 struct Sums {
     fine: bool,
     listed: usize,

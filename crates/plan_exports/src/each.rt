@@ -8,7 +8,7 @@ use plan_record::{Outcome, Plan, Reply};
 
 // How many calls were accepted, and the plan as the last one left it.
 #[repr(C)]
-#[derive(Drop)]
+#[derive(Clone, Copy)]
 pub struct FlatEach {
     pub accepted: u64,
     pub plan: FlatPlan,

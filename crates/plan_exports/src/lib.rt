@@ -1,5 +1,7 @@
 // Flat functions of the plan for compare/, which links them as a static library. Nothing is decided
 // here: each calls the plan, or one call after another, and promises what the call does of flat numbers.
+#![tactic(auto)]
+
 mod each;
 mod readers;
 
@@ -19,7 +21,7 @@ use footprint::Limits;
 
 // As many records as open takes.
 #[repr(C)]
-#[derive(Drop)]
+#[derive(Clone, Copy)]
 pub struct FlatRecords {
     pub records: [FlatRecord; 64],
 }

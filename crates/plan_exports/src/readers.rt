@@ -7,7 +7,7 @@ use flat_plan::{FlatPlan, FlatRecord, flat_record, flat_reply, plan_from};
 
 // The answer, and the record.
 #[repr(C)]
-#[derive(Drop)]
+#[derive(Clone, Copy)]
 pub struct FlatHanded {
     pub kind: u8,
     pub value: u64,

@@ -1,4 +1,6 @@
 // The plan's open: container limits and records, checked and settled, become a plan.
+#![tactic(auto)]
+
 mod accounts;
 mod build;
 mod row;

@@ -9,7 +9,7 @@ use crate::{Plan, Record, Region, Reply};
 use footprint::{Entry, Header, RegionKind};
 
 // The answer, and the record.
-#[derive(Drop)]
+#[derive(Clone, Copy)]
 pub struct Handed {
     pub reply: Reply,
     pub filed: Record,

@@ -1,4 +1,6 @@
 // The plan's record: its regions, each with the row of the lent lists that it owns, and the accounts.
+#![tactic(auto)]
+
 pub mod figures;
 mod footprints;
 mod handing;
@@ -13,7 +15,7 @@ use footprint::{Entry, Header, Limits, RegionKind};
 use regionmap::RegionMap;
 
 // A region as its table entry and its header have it, of which open takes up to 64.
-#[derive(Drop)]
+#[derive(Clone, Copy)]
 pub struct Record {
     pub number: u64,
     pub tag: u32,
@@ -26,7 +28,7 @@ pub struct Record {
 
 // A region of the plan. Its extents, and the runs of its map after the first, stand in the row of the
 // lent lists that it names.
-#[derive(Drop)]
+#[derive(Clone, Copy)]
 pub struct Region {
     pub number: u64,
     pub tag: u32,
@@ -46,7 +48,7 @@ pub struct Region {
 }
 
 // The plan, with lists that its holder lends to each call.
-#[derive(Drop)]
+#[derive(Clone, Copy)]
 pub struct Plan {
     pub limits: Limits,
     // The last sequence number.
@@ -58,7 +60,7 @@ pub struct Plan {
 }
 
 // What a call answers: a byte, that it is done, or document 01's refusal.
-#[derive(Drop)]
+#[derive(Clone, Copy)]
 pub enum Reply {
     At(u64),
     Done,
@@ -66,7 +68,7 @@ pub enum Reply {
 }
 
 // The answer of a call that may change the plan, and the plan as it left it.
-#[derive(Drop)]
+#[derive(Clone, Copy)]
 pub struct Outcome {
     pub reply: Reply,
     pub plan: Plan,

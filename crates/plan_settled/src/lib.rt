@@ -1,4 +1,6 @@
 // Open's refusals, the last of them, 15, by settlement.
+#![tactic(auto)]
+
 mod copy;
 mod fields;
 mod lay;

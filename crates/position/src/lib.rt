@@ -1,4 +1,6 @@
 // A caller of the plan. The position theorem stands in specs/Position.antt.
+#![tactic(auto)]
+
 ghost use Rattle.position.specs.Caller.{Drives};
 ghost use Rattle.plan_open.specs.Open.{opening_of};
 
@@ -8,7 +10,7 @@ use plan_open::open;
 use plan_record::{Plan, Record, Reply};
 
 // What each call answered, and the plan as the last one left it.
-#[derive(Drop)]
+#[derive(Clone, Copy)]
 pub struct Driven {
     pub opened: Reply,
     pub created: Reply,

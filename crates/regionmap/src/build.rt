@@ -8,7 +8,7 @@ ghost use Rattle.regionmap.specs.Inner.{Measured, Laid};
 use numbers::passes;
 
 // Document 01's refusal of a list of extents, 0 where there is none, and their length together.
-#[derive(Drop)]
+#[derive(Clone, Copy)]
 pub(crate) struct Sum {
     pub(crate) refusal: u64,
     pub(crate) bytes: u64,
@@ -36,7 +36,7 @@ pub(crate) fn measure(extents: &[u64]) -> Sum
 }
 
 // The file offset of the first run, and how many come after it.
-#[derive(Drop)]
+#[derive(Clone, Copy)]
 pub(crate) struct Runs {
     pub(crate) first: u64,
     pub(crate) count: usize,

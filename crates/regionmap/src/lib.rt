@@ -1,5 +1,7 @@
 // Where a region's data lies in the container: its extents, joined to runs, and the lookup of a
 // position among them.
+#![tactic(auto)]
+
 mod build;
 mod list;
 mod search;
@@ -20,7 +22,7 @@ const MOST: usize = 4084;
 
 // A region's data placement. Its runs after the first stand in two lists that its holder lends to
 // each call: their starts and their file offsets.
-#[derive(Drop)]
+#[derive(Clone, Copy)]
 pub struct RegionMap {
     // The file offset of the first run.
     pub first: u64,
@@ -35,14 +37,14 @@ pub struct RegionMap {
 }
 
 // A map, or document 01's refusal.
-#[derive(Drop)]
+#[derive(Clone, Copy)]
 pub enum Mapped {
     Map(RegionMap),
     Refused(u64),
 }
 
 // The file byte of a position, or document 01's refusal.
-#[derive(Drop)]
+#[derive(Clone, Copy)]
 pub enum Located {
     At(u64),
     Refused(u64),

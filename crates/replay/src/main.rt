@@ -1,6 +1,8 @@
 // Replays stored answers of the Rust, each by itself: align_up, sort_pairs, the region check, runs and
 // settlement. Standard input holds cases, each as many numbers as it says, the first of them its module's
 // (compare/sample writes it).
+#![tactic(auto)]
+
 mod aligned;
 mod checked;
 mod joined;

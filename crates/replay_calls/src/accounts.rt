@@ -8,7 +8,7 @@ use sample::words::{at, bytes_in, has, nth_list, past, past_lists, whole};
 use tagspace::{Cap, ExtentLen, TagSpace, extent_len};
 
 // The three numbers of a call's answer, and the accounts after it.
-#[derive(Drop)]
+#[derive(Clone, Copy)]
 pub(crate) struct Answer {
     refusal: u64,
     so: bool,

@@ -5,7 +5,7 @@ use freemap::{Complement, Fit, FreeBytes, FreeMap};
 use sample::words::{at, copied, front, has, kept, nth_list, past, past_lists, whole};
 
 // With whether the last call was answered alike.
-#[derive(Drop)]
+#[derive(Clone, Copy)]
 pub(crate) struct FreeState {
     pub(crate) alike: bool,
     map: FreeMap,
@@ -42,7 +42,7 @@ pub(crate) fn replay(before: FreeState, call: &[u64]) -> FreeState {
 }
 
 // The three numbers of a call's answer, and the map after it.
-#[derive(Drop)]
+#[derive(Clone, Copy)]
 struct FreeAnswer {
     refusal: u64,
     second: u64,

@@ -1,6 +1,8 @@
 // Replays stored answers of the Rust to calls one after another, on a region map, a free map and
 // accounts. Standard input holds cases, each as many numbers as it says, the first of them its module's
 // (compare/sample writes it).
+#![tactic(auto)]
+
 mod accounts;
 mod free;
 mod region;

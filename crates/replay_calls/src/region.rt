@@ -6,7 +6,7 @@ use runs::RunCount;
 use sample::words::{at, front, has, kept, nth_list, past_lists, same};
 
 // With whether the last call was answered alike.
-#[derive(Drop)]
+#[derive(Clone, Copy)]
 pub(crate) struct RegionState {
     pub(crate) alike: bool,
     map: RegionMap,
@@ -59,7 +59,7 @@ pub(crate) fn replay(before: RegionState, call: &[u64]) -> RegionState {
 }
 
 // The refusal and the value of a call, each 0 where there is none, and the map after it.
-#[derive(Drop)]
+#[derive(Clone, Copy)]
 struct RegionAnswer {
     refusal: u64,
     value: u64,

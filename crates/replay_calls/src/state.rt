@@ -7,7 +7,7 @@ use sample::Tally;
 use sample::words::{at, list, past};
 
 // With whether the last case was answered alike.
-#[derive(Drop)]
+#[derive(Clone, Copy)]
 pub(crate) struct State {
     pub(crate) tally: Tally,
     alike: bool,

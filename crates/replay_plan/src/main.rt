@@ -1,6 +1,8 @@
 // Replays stored answers of the model, document 01's plan written in Rust, to opens and calls one after
 // another on a plan. Standard input holds cases, each as many numbers as it says, the first of them its
 // call's (compare/sample writes it).
+#![tactic(auto)]
+
 mod call;
 mod figures;
 mod look;

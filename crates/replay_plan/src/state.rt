@@ -4,14 +4,14 @@ use plan_record::Plan;
 use sample::Tally;
 use sample::words::{at, list};
 
-#[derive(Drop)]
+#[derive(Clone, Copy)]
 pub(crate) struct State {
     pub(crate) tally: Tally,
     plan: Plan,
 }
 
 // The plan after a case, and whether the case was answered alike.
-#[derive(Drop)]
+#[derive(Clone, Copy)]
 pub(crate) struct Replayed {
     pub(crate) alike: bool,
     pub(crate) plan: Plan,

@@ -22,7 +22,7 @@ fn follows(file: u64, len: u64, next: u64, more: u64) -> bool
 }
 
 // A run's length, and the first extent behind it.
-#[derive(Drop)]
+#[derive(Clone, Copy)]
 struct Stretch {
     len: u64,
     next: usize,

@@ -1,4 +1,6 @@
 // The runs of a region's data: its extents in order, joined where one ends at the next's offset.
+#![tactic(auto)]
+
 mod join;
 
 ghost use Rattle.runs.specs.Runs.{Listed, count_of};
@@ -6,7 +8,7 @@ ghost use Rattle.runs.specs.Runs.{Listed, count_of};
 use join::join;
 
 // How many runs were written, or document 01's refusal.
-#[derive(Drop)]
+#[derive(Clone, Copy)]
 pub enum RunCount {
     Runs(usize),
     Refused(u64),

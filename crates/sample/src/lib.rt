@@ -1,4 +1,6 @@
 // The numbers of a text, for the programs that replay stored answers of the Rust.
+#![tactic(auto)]
+
 pub mod report;
 mod tally;
 pub mod words;
@@ -10,7 +12,7 @@ ghost use Rattle.sample.specs.Inner.{Reads};
 pub use tally::Tally;
 
 // How many numbers were read; whether one is begun, and its value so far, else 0.
-#[derive(Drop)]
+#[derive(Clone, Copy)]
 struct Reading {
     count: usize,
     begun: bool,

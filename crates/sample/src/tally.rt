@@ -5,7 +5,7 @@ ghost use Rattle.sample.specs.Tally.{place_of, no_cases, with_case};
 use numbers::add_stop;
 
 // The numbers of the modules are below 9; at 0 are the cases of no module.
-#[derive(Drop)]
+#[derive(Clone, Copy)]
 pub struct Tally {
     cases: [u64; 9],
     alike: [u64; 9],

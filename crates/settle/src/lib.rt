@@ -1,5 +1,7 @@
 // Settlement: which of the usable regions that an opened container holds are overlapped by another,
 // renamed or superseded.
+#![tactic(auto)]
+
 mod counts;
 mod lay;
 mod marks;

@@ -9,7 +9,7 @@ use crate::table::{above, from, raise};
 use sort::pair::pair_at;
 
 // A range on the way: where it starts, where it ends, and the place of its record.
-#[derive(Drop)]
+#[derive(Clone, Copy)]
 pub struct Item {
     pub start: u64,
     pub end: u64,

@@ -1,5 +1,7 @@
 // Usage of one tag: what its regions hold, what is reserved for it, its cap, and the rules by which a
 // call changes it. Beside them, what a region occupies.
+#![tactic(auto)]
+
 ghost use Rattle.std.specs.Prelude.{◌≡◌, ◌+◌, leb};
 ghost use Rattle.tagspace.specs.Extent.{extent_len, len_of};
 ghost use Rattle.tagspace.specs.Row.{blank, add_usage, remove_usage, reserve, unreserve, set_cap, fits};
@@ -9,14 +11,14 @@ use numbers::{add_stop, passes, sub_stop};
 const TOP: u64 = 0xffff_ffff_ffff_ffff;
 
 // The most bytes that a tag's regions and reservations may hold together, if there is such a limit.
-#[derive(Drop)]
+#[derive(Clone, Copy)]
 pub enum Cap {
     Nothing,
     Limit(u64),
 }
 
 // Usage of one tag.
-#[derive(Drop)]
+#[derive(Clone, Copy)]
 pub struct TagSpace {
     pub tag: u32,
     // Data bytes of the tag's regions.
@@ -29,7 +31,7 @@ pub struct TagSpace {
 }
 
 // What a region occupies, none past 2^64 - 1.
-#[derive(Drop)]
+#[derive(Clone, Copy)]
 pub enum ExtentLen {
     Bytes(u64),
     Nothing,

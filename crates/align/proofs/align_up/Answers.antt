@@ -1,0 +1,40 @@
+-- `align::align_up` meets its contract: each return is the case of `align_up` that its tests chose.
+use Prim.Native.Nat.{◌+◌, ◌-◌, ◌≤◌, ◌<◌}
+use mathlib.Core.Bool.{true}
+use mathlib.Core.Path.{◌≡◌, ◌∙◌, sym}
+use native.Mathlib.Omega.{arith}
+use lib.Bits.{and_le_l}
+use borrow.Author.Tests.{le-leb, lt-leb, not-true, not-false}
+use Rattle.align.specs.Align.{align_up}
+use Rattle.numbers.specs.Powers.{is_power_of_two}
+use Rattle.numbers.specs.Sums.{top}
+use Rattle.align.proofs.Least.{power_pos, masked}
+use Rattle.align.proofs.align_up.Goals as goal
+use Rattle.align.proofs.align_up.Goals.{Else-not-is_power_of_two}
+
+power : (c : Else-not-is_power_of_two) → is_power_of_two c.args.align ≡ true
+power c = sym c.is_power_of_two.ensures ∙ not-false _ c.if-not-is_power_of_two.false-raw
+
+pub returns-then-not-is_power_of_two : goal.returns-then-not-is_power_of_two
+unfolding align_up
+returns-then-not-is_power_of_two c = simp (sym c.is_power_of_two.ensures ∙ not-true _ c.if-not-is_power_of_two.true-raw)
+
+pub overflow_sub-mask : goal.overflow_sub-mask
+overflow_sub-mask c = omega (arith, power_pos 64 _ (power (goal.at.overflow_sub-mask c).Else-not-is_power_of_two))
+
+pub returns-then-value-mask : goal.returns-then-value-mask
+unfolding align_up
+returns-then-value-mask c =
+    let a = c.args in
+    let h : top < a.value + (a.align - 1) = omega arith in
+    simp (power (goal.at.returns-then-value-mask c).Else-not-is_power_of_two, lt-leb _ _ h)
+
+pub overflow_sub-result : goal.overflow_sub-result
+overflow_sub-result c = and_le_l _ _
+
+pub returns : goal.returns
+unfolding align_up
+returns c =
+    let a = c.args in
+    let h : a.value + (a.align - 1) ≤ top = omega arith in
+    simp (power (goal.at.returns c).Else-not-is_power_of_two, le-leb _ _ h, masked 64 _ (power (goal.at.returns c).Else-not-is_power_of_two))

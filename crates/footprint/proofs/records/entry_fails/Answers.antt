@@ -1,0 +1,73 @@
+-- `footprint::records::entry_fails` meets its contract: each return is the case that its tests chose.
+use mathlib.Core.Bool.{Bool, false, ◌||◌}
+use mathlib.Core.Path.{◌≡◌, sym, ◌∙◌}
+use native.Mathlib.Omega.{arith}
+use lib.Pow.{pow_pos}
+use borrow.Author.Tests.{lt-ltb, le-ltb}
+use Rattle.footprint.specs.Footprint.{block_of, entry_fails, span_fails, block_fails, near}
+use Rattle.footprint.specs.declared.Entry.{Entry}
+use Rattle.footprint.specs.declared.Limits.{Limits}
+use Rattle.footprint.proofs.records.entry_fails.Goals as goal
+use Rattle.footprint.proofs.records.entry_fails.Goals.{After-misplaced, After-misplaced-2, After-near, Else-entry-limits, Else-near}
+
+-- what the tests up to a place have shown
+span : (c : Else-entry-limits) → span_fails c.args.limits c.args.entry ≡ false
+unfolding span_fails
+span c = simp (le-ltb _ _ c.if-limits-entry.false, le-ltb _ _ c.if-entry.false, le-ltb _ _ c.if-entry-limits.false)
+
+told-a : (c : After-misplaced) → block_fails (block_of c.args.limits) c.args.entry c.args.entry.header_a ≡ c.misplaced.result
+told-a c = rw (← c.block_of-block.ensures) (sym c.misplaced.ensures)
+
+told-b : (c : After-misplaced-2) → block_fails (block_of c.args.limits) c.args.entry c.args.entry.header_b ≡ c.misplaced-2.result
+told-b c = rw (← c.block_of-block.ensures) (sym c.misplaced-2.ensures)
+
+told-near : (c : After-near) → near (block_of c.args.limits) c.args.entry.header_a c.args.entry.header_b ≡ c.near.result
+told-near c = rw (← c.block_of-block.ensures) (sym c.near.ensures)
+
+abbrev headers_fail : Limits → Entry → Bool
+headers_fail lim e = span_fails lim e || block_fails (block_of lim) e e.header_a || block_fails (block_of lim) e e.header_b || near (block_of lim) e.header_a e.header_b
+
+placed : (c : Else-near) → headers_fail c.args.limits c.args.entry ≡ false
+unfolding span_fails
+placed c = simp ((simp (le-ltb _ _ c.if-limits-entry.false, le-ltb _ _ c.if-entry.false, le-ltb _ _ c.if-entry-limits.false)), (rw (← c.block_of-block.ensures) (sym c.misplaced.ensures)) ∙ c.if-misplaced.false, (rw (← c.block_of-block.ensures) (sym c.misplaced-2.ensures)) ∙ c.if-misplaced-2.false, (rw (← c.block_of-block.ensures) (sym c.near.ensures)) ∙ c.if-near.false)
+
+pub returns-then-limits-entry : goal.returns-then-limits-entry
+unfolding entry_fails span_fails
+returns-then-limits-entry c = simp (lt-ltb _ _ c.if-limits-entry.true)
+
+pub returns-then-entry : goal.returns-then-entry
+unfolding entry_fails span_fails
+returns-then-entry c = simp (le-ltb _ _ c.if-limits-entry.false, lt-ltb _ _ c.if-entry.true)
+
+pub returns-then-entry-limits : goal.returns-then-entry-limits
+unfolding entry_fails span_fails
+returns-then-entry-limits c = simp (le-ltb _ _ c.if-limits-entry.false, le-ltb _ _ c.if-entry.false, lt-ltb _ _ c.if-entry-limits.true)
+
+pub block_of-block-requires : goal.block_of-block-requires
+block_of-block-requires c = omega (arith, c.requires)
+
+pub misplaced-requires : goal.misplaced-requires
+misplaced-requires c = rw c.block_of-block.ensures (pow_pos _)
+
+pub returns-then-misplaced : goal.returns-then-misplaced
+unfolding entry_fails
+returns-then-misplaced c = simp (span (goal.at.returns-then-misplaced c).Else-entry-limits, told-a (goal.at.returns-then-misplaced c).After-misplaced ∙ c.if-misplaced.true)
+
+pub misplaced-requires-2 : goal.misplaced-requires-2
+misplaced-requires-2 c = rw c.block_of-block.ensures (pow_pos _)
+
+pub returns-then-misplaced-2 : goal.returns-then-misplaced-2
+unfolding entry_fails
+returns-then-misplaced-2 c = simp (span (goal.at.returns-then-misplaced-2 c).Else-entry-limits, told-a (goal.at.returns-then-misplaced-2 c).After-misplaced ∙ c.if-misplaced.false, told-b (goal.at.returns-then-misplaced-2 c).After-misplaced-2 ∙ c.if-misplaced-2.true)
+
+pub returns-then-near : goal.returns-then-near
+unfolding entry_fails
+returns-then-near c = simp (span (goal.at.returns-then-near c).Else-entry-limits, told-a (goal.at.returns-then-near c).After-misplaced ∙ c.if-misplaced.false, told-b (goal.at.returns-then-near c).After-misplaced-2 ∙ c.if-misplaced-2.false, told-near (goal.at.returns-then-near c).After-near ∙ c.if-near.true)
+
+pub returns-then-entry-2 : goal.returns-then-entry-2
+unfolding entry_fails
+returns-then-entry-2 c = simp (placed (goal.at.returns-then-entry-2 c).Else-near, lt-ltb _ _ c.if-entry-2.true)
+
+pub returns : goal.returns
+unfolding entry_fails
+returns c = c.some_empty.ensures ∙ simp (placed (goal.at.returns c).Else-near, le-ltb _ _ c.if-entry-2.false)

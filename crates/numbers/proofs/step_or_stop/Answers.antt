@@ -1,0 +1,15 @@
+-- `numbers::step_or_stop` meets its contract.
+use Prim.Native.Nat.{◌^◌, ◌<◌}
+use native.Mathlib.Omega.{arith}
+use borrow.Author.Rules.{rules}
+use borrow.Author.Tests.{not-true, not-false}
+use Rattle.numbers.proofs.step_or_stop.Goals as goal
+
+pub returns-then-not-up : goal.returns-then-not-up
+returns-then-not-up c = let f : c.args.lo < 2 ^ 64 = search rules in rw (not-true c.args.up c.if-not-up.true-raw) (omega (arith, f))
+
+pub returns-then-lo-step : goal.returns-then-lo-step
+returns-then-lo-step c = rw (not-false c.args.up c.if-not-up.false-raw) (omega (arith, c.if-lo-step.true))
+
+pub returns : goal.returns
+returns c = rw (not-false c.args.up c.if-not-up.false-raw) (omega (arith, c.if-lo-step.false))

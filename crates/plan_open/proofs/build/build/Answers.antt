@@ -1,0 +1,16 @@
+-- `plan_open::build::build` meets its contract: the parts of the plan make up the world.
+use Rattle.plan_open.proofs.Whole.{build-few, build-log, build-fits, built}
+use Rattle.plan_open.proofs.build.build.Goals as goal
+
+pub fill-plan-requires : goal.fill-plan-requires
+fill-plan-requires c = (build-few c.requires, build-fits c.requires)
+
+pub highest_seq-requires : goal.highest_seq-requires
+highest_seq-requires c = build-few c.requires
+
+pub accounts_of-plan-requires : goal.accounts_of-plan-requires
+accounts_of-plan-requires c = (build-log c.requires, build-few c.requires)
+
+pub returns : goal.returns
+returns c =
+    built c.requires c.fill-plan.ensures _ c.highest_seq.ensures c.accounts_of-plan.ensures

@@ -1,0 +1,6 @@
+use mathlib.Core.Path.{ap, ◌∙◌}
+use Rattle.tagspace.specs.declared.TagSpace.{TagSpace}
+use Rattle.plan_record.proofs.Plan.physical.Goals as goal
+
+pub returns : goal.returns
+returns c = record { told = λ xs ss fs v. ap (λ (r : TagSpace). r.physical) (c.row.ensures v.accounts ∙ v.accounted _) }

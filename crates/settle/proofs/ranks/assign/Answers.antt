@@ -1,0 +1,35 @@
+-- `settle::ranks::assign` meets its contract: the first t keys' places have their ranks.
+use mathlib.Core.Logic.{⊎_elim}
+use mathlib.Core.Path.{refl}
+use native.Mathlib.Omega.{arith}
+use Rattle.numbers.proofs.Pairs.{pair-in, half_in, half_out}
+use Rattle.settle.proofs.Ranking.{walking-begins, walking-place, walking-same, walking-next, walking-ends}
+use Rattle.settle.proofs.ranks.assign.Goals as goal
+
+pub loop-t-init : goal.loop-t-init
+loop-t-init c = walking-begins _ _
+
+pub pair_at-next-requires : goal.pair_at-next-requires
+pair_at-next-requires c = tt
+
+pub pair_at-requires : goal.pair_at-requires
+pair_at-requires c = tt
+
+pub offset_bounds-ranks-next : goal.offset_bounds-ranks-next
+offset_bounds-ranks-next c = let p = c.requires in omega (arith, walking-place p.0 p.1 c.loop-t.invariant (half_in _ _ _ refl c.loop-t-test.true) _ c.pair_at-next.ensures)
+
+pub bounds-ranks-next : goal.bounds-ranks-next
+bounds-ranks-next c = let p = c.requires in omega (arith, walking-place p.0 p.1 c.loop-t.invariant (half_in _ _ _ refl c.loop-t-test.true) _ c.pair_at-next.ensures)
+
+pub overflow_add-t : goal.overflow_add-t
+overflow_add-t c = omega (arith, pair-in _ _ (half_in c.args.keys.now _ _ refl c.loop-t-test.true))
+
+pub loop-t-preserved : goal.loop-t-preserved
+loop-t-preserved c = let p = c.requires in let h = half_in _ _ _ refl c.loop-t-test.true in
+    ⊎_elim (λ u. walking-next p.0 p.1 c.loop-t.invariant h _ _ c.pair_at-next.ensures c.pair_at.ensures _ u.1 u.0.taken) (λ u. walking-same p.0 p.1 c.loop-t.invariant h _ _ c.pair_at-next.ensures c.pair_at.ensures _ u.1 u.0.left) c.if-pair_at-next.branch
+
+pub shape_of-ranks : goal.shape_of-ranks
+shape_of-ranks c = c.loop-t.invariant.size
+
+pub returns : goal.returns
+returns c = let p = c.requires in walking-ends p.0 p.1 c.loop-t.invariant (half_out _ _ _ refl c.loop-t-test.false)

@@ -1,0 +1,11 @@
+use Prim.Native.Nat.{◌-◌}
+use lib.ListN.{length}
+use Rattle.numbers.specs.Pairs.{pairs}
+use Rattle.settle.proofs.Ranking.{Walking}
+use Rattle.settle.proofs.ranks.assign.Given as goal
+
+abbrev pub invariant-loop-t : goal.invariant-loop-t
+invariant-loop-t l = Walking (pairs l.keys) (length l.initial.ranks) l.ranks l.rank l.t
+
+abbrev pub decreases-loop-t : goal.decreases-loop-t
+decreases-loop-t l = l.n - l.t
