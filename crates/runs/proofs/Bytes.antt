@@ -39,7 +39,7 @@ byte-in [] p a h = absurd (omega arith)
 byte-in (x ∷ xs) p a h =
     by-lt p x.len
     (λ l. let e = end-exact x a.0 in inl (rw (byte-here x xs p l) (record { from = omega arith; upto = omega arith })))
-    (λ l. inr (simp (byte-later x xs p l) (byte-in xs (p - x.len) a.1 (omega arith))))
+    (λ l. inr (subst (λ (b : ℕ). Any (λ (y : Range). Has y b) xs) (sym (byte-later x xs p l)) (byte-in xs (p - x.len) a.1 (omega arith))))
 
 -- positions of extents that meet none of others have other bytes than those
 pub bytes_apart : (xs ys : List Range) → Ends xs → Ends ys → All (λ (x : Range). MeetsNone x ys) xs → (p q : ℕ) → p < total xs → q < total ys → byte_of xs p ≡ byte_of ys q → ⊥
