@@ -57,6 +57,10 @@ pub record Looked (s : List ℕ) (n i : ℕ) : Type 0 where
 pub look-begins : (s : List ℕ) → Ascending (pairs s) → Looked s (length s / 2) 0
 look-begins s a = record { all = sym (length_pairs s); order = a; rest = refl }
 
+first_two : (r q : Range) (rs : List Range) → neighbours_meet (r ∷ q ∷ rs) ≡ (ltb (q.offset - r.offset) r.len || neighbours_meet (q ∷ rs))
+unfolding neighbours_meet
+first_two r q rs = refl
+
 short : (l : List Range) → length l ≤ 1 → neighbours_meet l ≡ false
 unfolding neighbours_meet
 short [] h = refl
@@ -80,11 +84,10 @@ module _ {s : List ℕ} {n i : ℕ} (g : Looked s n i) where
         omega (arith, o, ap (λ (r : Range). r.offset) at, ap (λ (r : Range). r.offset) behind-at)
 
     pub look-next : neighbours_meet (pairs s) ≡ (ltb (get_or s (2 * i + 2) 0 - get_or s (2 * i) 0) (get_or s (2 * i + 1) 0) || neighbours_meet (drop (i + 1) (pairs s)))
-    unfolding neighbours_meet
     look-next =
         let l = pairs s in
         let e : i + 1 ≡ suc i = omega arith in
-        g.rest ∙ rw (e, drop-cons l i blank (omega (arith, g.all)), drop-cons l (suc i) blank (omega (arith, g.all)), at, behind-at)
+        g.rest ∙ rw (e, drop-cons l i blank (omega (arith, g.all)), drop-cons l (suc i) blank (omega (arith, g.all)), at, behind-at) (first_two _ _ _)
 
     pub look-on : ltb (get_or s (2 * i + 2) 0 - get_or s (2 * i) 0) (get_or s (2 * i + 1) 0) ≡ false → Looked s n (i + 1)
     look-on f = record { all = g.all; order = g.order; rest = look-next ∙ simp f }

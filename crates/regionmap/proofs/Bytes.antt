@@ -82,7 +82,7 @@ last-at : (p : ℕ) (r : Run) (rs : List Run) (k : ℕ) → k < length rs → (g
 unfolding last_at
 last-at p r [] k h s f = absurd (not-suc-le-zero h)
 last-at p r (q ∷ qs) zero h s f = simp (le-leb q.start p s) (last_none p q qs (λ j l. f (suc j) (omega arith) (omega arith)))
-last-at p r (q ∷ qs) (suc k) h s f = last-at p _ qs k (le_of_suc-le-suc h) s (λ j l m. f (suc j) (omega arith) (omega arith))
+last-at p r (q ∷ qs) (suc k) h s f = last-at p (cond (leb q.start p) q r) qs k (le_of_suc-le-suc h) s (λ j l m. f (suc j) (omega arith) (omega arith))
 
 pub run_at : (rs : List Run) (p k : ℕ) → k < length rs → (get_or rs k blank_run).start ≤ p → ((j : ℕ) → k < j → j < length rs → p < (get_or rs j blank_run).start) → run_of rs p ≡ get_or rs k blank_run
 run_at rs p k h s f = last-at p blank_run rs k h s f

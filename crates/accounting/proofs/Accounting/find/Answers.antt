@@ -12,7 +12,7 @@ use Rattle.accounting.proofs.Accounting.find.Goals.{Start}
 
 full : (c : Start) → length (tags_of c.args.self) ≡ 96
 unfolding tags_of
-full c = length-map c.args.self.rows (λ (r : TagSpace). r.tag) ∙ simp length-map at c.well_formed.0.1.1.0.1.0.1
+full c = length-map c.args.self.rows (λ (r : TagSpace). r.tag) ∙ c.well_formed.0.1.1.0.1.0.1
 
 pub returns-then-count-gt-MOST : goal.returns-then-count-gt-MOST
 returns-then-count-gt-MOST c = sought-none _ _ c.if-count-gt-MOST.true

@@ -9,7 +9,7 @@ use Rattle.accounting.proofs.Accounting.insert.Goals as goal
 use Rattle.accounting.proofs.Accounting.insert.Goals.{Start}
 
 full : (c : Start) → length c.args.self.rows ≡ 96
-full c = simp length-map at c.well_formed.0.1.1.0.1.0.1
+full c = c.well_formed.0.1.1.0.1.0.1
 
 pub returns-then-count-gt-MOST : goal.returns-then-count-gt-MOST
 returns-then-count-gt-MOST c = sym (inserted-many _ _ _ c.if-count-gt-MOST.true)

@@ -1,13 +1,12 @@
 -- `footprint::extents::some_empty` meets its contract: the extents in front of i are not empty.
-use mathlib.Core.Logic.{⊎_elim}
 use mathlib.Core.Path.{sym}
 use native.Mathlib.Omega.{arith}
 use Rattle.footprint.proofs.Scan.{search-begins, search-in, search-found, search-on, search-ends}
 use Rattle.footprint.proofs.extents.some_empty.Goals as goal
+use Rattle.footprint.proofs.extents.some_empty.Goals.{then-count-n, else-count-n}
 
 pub loop-i-init : goal.loop-i-init
-loop-i-init c = let a = c.args in
-    search-begins _ _ _ (⊎_elim (λ u. omega (arith, u)) (λ u. omega (arith, u)) c.if-count-n.branch)
+loop-i-init c = search-begins _ _ _ (elim c.if-count-n.branch [ then-count-n w ↦ omega arith | else-count-n w ↦ omega arith ])
 
 pub overflow_mul-i : goal.overflow_mul-i
 overflow_mul-i c = let h = search-in c.loop-i.invariant c.loop-i-test.true in omega arith

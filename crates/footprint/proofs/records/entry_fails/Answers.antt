@@ -29,7 +29,12 @@ headers_fail lim e = span_fails lim e || block_fails (block_of lim) e e.header_a
 
 placed : (c : Else-near) → headers_fail c.args.limits c.args.entry ≡ false
 unfolding span_fails
-placed c = simp ((simp (le-ltb _ _ c.if-limits-entry.false, le-ltb _ _ c.if-entry.false, le-ltb _ _ c.if-entry-limits.false)), (rw (← c.block_of-block.ensures) (sym c.misplaced.ensures)) ∙ c.if-misplaced.false, (rw (← c.block_of-block.ensures) (sym c.misplaced-2.ensures)) ∙ c.if-misplaced-2.false, (rw (← c.block_of-block.ensures) (sym c.near.ensures)) ∙ c.if-near.false)
+placed c =
+    let inside : span_fails c.args.limits c.args.entry ≡ false = simp (le-ltb _ _ c.if-limits-entry.false, le-ltb _ _ c.if-entry.false, le-ltb _ _ c.if-entry-limits.false) in
+    let a : block_fails (block_of c.args.limits) c.args.entry c.args.entry.header_a ≡ c.misplaced.result = rw (← c.block_of-block.ensures) (sym c.misplaced.ensures) in
+    let b : block_fails (block_of c.args.limits) c.args.entry c.args.entry.header_b ≡ c.misplaced-2.result = rw (← c.block_of-block.ensures) (sym c.misplaced-2.ensures) in
+    let n : near (block_of c.args.limits) c.args.entry.header_a c.args.entry.header_b ≡ c.near.result = rw (← c.block_of-block.ensures) (sym c.near.ensures) in
+    simp (inside, a ∙ c.if-misplaced.false, b ∙ c.if-misplaced-2.false, n ∙ c.if-near.false)
 
 pub returns-then-limits-entry : goal.returns-then-limits-entry
 unfolding entry_fails span_fails
