@@ -87,5 +87,5 @@ apart-only low low' (g ∷ gs) (h ∷ hs) a b s t f f' =
     let o : g.offset ≡ h.offset = le_antisymm (begins-before low' low h g hs gs b a t f') (begins-before low low' g h gs hs a b s f) in
     let e : g.offset + g.len ≡ h.offset + h.len = le_antisymm (ends-behind low low' g h gs hs a b s f o) (ends-behind low' low h g hs gs b a t f' (sym o)) in
     let l : g.len ≡ h.len = omega arith in
-    let r : gs ≡ hs = apart-only _ _ gs hs a.2 b.2 s.1 t.1 (tail-into low low' g h gs hs a b s f e) (tail-into low' low h g hs gs b a t f' (sym e)) in
+    let r : gs ≡ hs = apart-only (suc (g.offset + g.len)) (suc (h.offset + h.len)) gs hs a.2 b.2 s.1 t.1 (tail-into low low' g h gs hs a b s f e) (tail-into low' low h g hs gs b a t f' (sym e)) in
     λ i. record { offset = o i; len = l i } ∷ r i

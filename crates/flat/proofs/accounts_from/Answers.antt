@@ -9,7 +9,7 @@ use Rattle.flat.proofs.accounts_from.Goals as goal
 use Rattle.flat.proofs.accounts_from.Goals.{Start}
 
 full : (c : Start) → length c.args.flat.rows ≡ 96
-full c = simp length-map at c.well_formed.0.1.1.0.1.0.1
+full c = c.well_formed.0.1.1.0.1.0.1
 
 pub loop-i-init : goal.loop-i-init
 loop-i-init c = turn-begins row_from _ _ (ap (λ (a : Accounting). length a.rows) c.empty-accounts.ensures.0 ∙ empty-long ∙ sym (full (goal.at.loop-i-init c).Start))

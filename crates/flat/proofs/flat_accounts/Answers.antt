@@ -9,7 +9,7 @@ use Rattle.flat.proofs.flat_accounts.Goals as goal
 use Rattle.flat.proofs.flat_accounts.Goals.{Start}
 
 full : (c : Start) → length c.args.accounts.rows ≡ 96
-full c = simp length-map at c.well_formed.0.1.1.0.1.0.1
+full c = c.well_formed.0.1.1.0.1.0.1
 
 pub loop-i-init : goal.loop-i-init
 loop-i-init c = (turn-begins flat_row _ _ (length-replicate {A = FlatRow} 96 c.flat_row-none.result ∙ sym (full (goal.at.loop-i-init c).Start)), refl, refl)

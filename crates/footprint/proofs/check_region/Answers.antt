@@ -12,11 +12,11 @@ slice_bounds-scratch-end c = let h = room _ _ _ _ _ _ c.fill_footprint-verdict.e
 pub returns-then-report : goal.returns-then-report
 returns-then-report c = record {
   checked = part _ _ _ _ _ _ c.fill_footprint-verdict.ensures c.report.ensures c.if-report.true;
-  ref_ptr_value = ap (λ (o : ℕ). (c.args.scratch.ref_ptr.0, o)) (zero-add _)
+  ref_ptr_value = ap (λ (o : ℕ). (c.args.scratch.ref_ptr.0, o)) (zero-add _);
 }
 
 pub returns : goal.returns
 returns c = record {
   checked = no_part _ _ _ _ _ _ c.fill_footprint-verdict.ensures c.report.ensures c.if-report.false;
-  ref_ptr_value = ap (λ (o : ℕ). (c.args.scratch.ref_ptr.0, o)) (zero-add _)
+  ref_ptr_value = ap (λ (o : ℕ). (c.args.scratch.ref_ptr.0, o)) (zero-add _);
 }

@@ -11,7 +11,7 @@ use Rattle.plan.proofs.grow.Goals as goal
 use Rattle.plan.proofs.grow.Goals.{Else-lists_short, Start}
 
 full : (c : Start) → length c.args.plan.regions ≡ 64
-full c = simp length-map at c.well_formed.0.1.1.1.1.1.0.1.0.1
+full c = c.well_formed.0.1.1.1.1.1.0.1.0.1
 
 long : (c : Else-lists_short) → (places ≤ length c.args.starts.now) × (places ≤ length c.args.files.now) × (3840 ≤ length c.args.extents.now / 2)
 long c =

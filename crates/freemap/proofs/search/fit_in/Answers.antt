@@ -11,13 +11,13 @@ pub overflow_sub-pad : goal.overflow_sub-pad
 overflow_sub-pad c = omega (arith, and_le_r c.wrapping_add_u64.result c.args.mask)
 
 pub returns-then-bytes-len-2 : goal.returns-then-bytes-len-2
-returns-then-bytes-len-2 c = sym (fit-far _ _ _ _ _ c.requires.0 _ c.wrapping_add_u64.ensures c.if-bytes-len.false (omega (arith, c.if-bytes-len-2.true)))
+returns-then-bytes-len-2 c = sym (fit-far _ _ _ _ _ c.requires.0 _ c.wrapping_add_u64.ensures.value c.if-bytes-len.false (omega (arith, c.if-bytes-len-2.true)))
 
 pub returns-then-at-len : goal.returns-then-at-len
-returns-then-at-len c = sym (fit-high _ _ _ _ _ c.requires.0 _ c.wrapping_add_u64.ensures _ c.wrapping_add_u64-at.ensures (omega (arith, c.if-at-len.true)))
+returns-then-at-len c = sym (fit-high _ _ _ _ _ c.requires.0 _ c.wrapping_add_u64.ensures.value _ c.wrapping_add_u64-at.ensures.value (omega (arith, c.if-at-len.true)))
 
 pub returns-then-lead-start : goal.returns-then-lead-start
 returns-then-lead-start c = sym (fit-skipped _ _ _ _ _ c.requires.0 (omega (arith, c.if-lead-start.true, c.requires.1)))
 
 pub returns : goal.returns
-returns c = sym (fit_at _ _ _ _ _ c.requires.0 _ c.wrapping_add_u64.ensures _ c.wrapping_add_u64-at.ensures (omega (arith, c.if-lead-start.false, c.requires.1)) c.if-bytes-len.false (omega (arith, c.if-bytes-len-2.false)) (omega (arith, c.if-at-len.false)))
+returns c = sym (fit_at _ _ _ _ _ c.requires.0 _ c.wrapping_add_u64.ensures.value _ c.wrapping_add_u64-at.ensures.value (omega (arith, c.if-lead-start.false, c.requires.1)) c.if-bytes-len.false (omega (arith, c.if-bytes-len-2.false)) (omega (arith, c.if-at-len.false)))

@@ -8,7 +8,7 @@ use Rattle.plan.proofs.inner.rotate.Goals as goal
 use Rattle.plan.proofs.inner.rotate.Goals.{Start}
 
 full : (c : Start) → length c.args.plan.regions ≡ 64
-full c = simp length-map at c.well_formed.0.1.1.1.1.1.0.1.0.1
+full c = c.well_formed.0.1.1.1.1.1.0.1.0.1
 
 few : (c : Start) → length (regions_of c.args.plan) ≤ 64
 few c = simp length-take (omega (arith, full c))
