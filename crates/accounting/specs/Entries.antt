@@ -1,9 +1,8 @@
 -- Document 01, space.rs's `from_usage` and `from_entries`: the accounts of a region table.
-use Rattle.std.specs.Prelude.{ℕ, ◌+◌, ◌*◌, Bool, cond, not, ◌||◌, List, [], ◌∷◌, ◌≡◌, ltb, eqb, length, get_or, drop}
+use Rattle.std.specs.Prelude.{ℕ, Bool, cond, not, ◌||◌, List, [], ◌∷◌, ◌≡◌, eqb, length, get_or, drop}
 use Rattle.std.proofs.Math.Option.{Option, none, some}
 use Rattle.tagspace.specs.Row.{add_usage}
 use Rattle.accounting.specs.Table.{Table, Valid, accounts_of, on_row, handed}
-use Rattle.accounting.specs.declared.Accounting.{Accounting}
 use Rattle.accounting.specs.declared.Posted.{Posted}
 use Rattle.numbers.specs.Sums.{top}
 use Rattle.tagspace.specs.Extent.{extent_len}

@@ -15,7 +15,7 @@ use Rattle.numbers.specs.Lists.{any}
 use Rattle.numbers.specs.Pairs.{pairs}
 use Rattle.numbers.specs.Range.{Range, range, blank}
 use Rattle.numbers.specs.Refusals.{first, refuse}
-use Rattle.numbers.specs.Sums.{top, sum}
+use Rattle.numbers.specs.Sums.{top}
 use Rattle.numbers.proofs.Pairs.{length_pairs, pair-at, pair-in}
 use Rattle.numbers.proofs.Refusals.{first_one, Walked, walk-outside, walk-over, walk-on, walk_ends, walk-sum}
 

@@ -1,12 +1,11 @@
 -- What the steps of the check do; no public call promises anything by these.
-use Rattle.std.specs.Prelude.{ℕ, ◌+◌, ◌-◌, ◌≤◌, ◌<◌, Bool, false, ◌||◌, List, [], ◌∷◌, ◌++◌, map, ◌≡◌, ltb, length, get_or, drop}
+use Rattle.std.specs.Prelude.{ℕ, ◌-◌, Bool, false, ◌||◌, List, [], ◌∷◌, ◌++◌, ◌≡◌, ltb, get_or}
 use Rattle.footprint.specs.Footprint.{committed, footprint_of, entry_tests, header_tests, extent_tests}
 use Rattle.footprint.specs.declared.Entry.{Entry}
 use Rattle.footprint.specs.declared.Header.{Header}
 use Rattle.footprint.specs.declared.Limits.{Limits}
-use Rattle.numbers.specs.Lists.{written}
 use Rattle.numbers.specs.Pairs.{flat}
-use Rattle.numbers.specs.Range.{Range, range, blank}
+use Rattle.numbers.specs.Range.{Range}
 use Rattle.numbers.specs.Refusals.{first, Answer, number_of, is_accepted, value_or}
 
 -- Every refusal but 13.

@@ -1,5 +1,5 @@
 -- Document 01, head: ranges, their ends and bytes, and when two meet.
-use Rattle.std.specs.Prelude.{ℕ, ◌+◌, ◌≤◌, ◌<◌, min, max, Bool, ◌&&◌, List, [], ◌∷◌, map, ltb, leb}
+use Rattle.std.specs.Prelude.{ℕ, ◌+◌, ◌≤◌, ◌<◌, min, max, Bool, ◌&&◌, List, map, ltb, leb}
 use Rattle.numbers.specs.Lists.{Pairwise}
 use Rattle.numbers.specs.Sums.{stop, sum}
 

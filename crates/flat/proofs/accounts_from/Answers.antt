@@ -1,7 +1,7 @@
 -- `flat::accounts_from` meets its contract: the first i rows are turned.
 use mathlib.Core.Path.{◌≡◌, ap, sym, ◌∙◌}
 use native.Mathlib.Omega.{arith}
-use lib.ListN.{length, length-map}
+use lib.ListN.{length}
 use Rattle.accounting.specs.declared.Accounting.{Accounting}
 use Rattle.flat.specs.Flat.{row_from, accounts_from}
 use Rattle.flat.proofs.Turning.{turn-begins, turn_on, turn-ends, empty-long}

@@ -1,7 +1,7 @@
 -- `flat::flat_accounts` meets its contract: the first i rows are turned.
 use mathlib.Core.Path.{◌≡◌, refl, sym, ◌∙◌}
 use native.Mathlib.Omega.{arith}
-use lib.ListN.{length, length-map, length-replicate}
+use lib.ListN.{length, length-replicate}
 use Rattle.flat.specs.Flat.{flat_row, flat_accounts}
 use Rattle.flat.specs.declared.FlatRow.{FlatRow}
 use Rattle.flat.proofs.Turning.{turn-begins, turn_on, turn-ends}

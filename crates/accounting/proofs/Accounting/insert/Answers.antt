@@ -1,7 +1,7 @@
 -- `accounting::Accounting::insert` meets its contract: rows move one place further, the last first.
 use mathlib.Core.Path.{◌≡◌, sym}
 use native.Mathlib.Omega.{arith}
-use lib.ListN.{length, length-map}
+use lib.ListN.{length}
 use Rattle.tagspace.specs.Row.{blank}
 use Rattle.accounting.proofs.Handing.{inserted-many, inserted-full, inserted-room}
 use Rattle.accounting.proofs.Shifting.{insert-begins, insert-in, insert-on, insert-ends}
