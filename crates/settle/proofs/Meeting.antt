@@ -10,7 +10,7 @@ use lib.Seq.{ext_get_or, get_or-append-add, get_or-take, length-take-le}
 use borrow.Author.Tests.{lt-ltb, le-ltb, le-leb, lt-leb, leb-true, leb-false, ne_eqb}
 use Rattle.numbers.specs.Lists.{All, any}
 use Rattle.numbers.specs.Order.{InOrder}
-use Rattle.numbers.specs.Range.{Range, range, blank, end_of, meets}
+use Rattle.numbers.specs.Range.{Range, blank, end_of, meets}
 use Rattle.numbers.specs.Sums.{top}
 use Rattle.settle.specs.Inner.{no_region}
 use Rattle.settle.specs.Laying.{Ordered, no_piece}

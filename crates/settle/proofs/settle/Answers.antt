@@ -17,10 +17,10 @@ abbrev theirs : (c : Else-settle_fails) → Lent
 theirs c = let a = c.args in lent a.unavailable a.own_seqs.now a.own_counts.now a.own_ranges.now a.own_lens.now a.own_names.now
 
 ok : (c : Else-settle_fails) → Accepted (ours c) (theirs c) (length c.args.marks.now) (length c.args.scratch.now)
-ok c = accepted (ours c) (theirs c) _ _ (sym c.settle_fails.ensures ∙ c.if-settle_fails.left)
+ok c = accepted (ours c) (theirs c) _ _ (sym c.settle_fails.ensures ∙ c.if-settle_fails.false)
 
 pub returns-then-settle_fails : goal.returns-then-settle_fails
-returns-then-settle_fails c = settled-refused (lent _ _ _ _ _ _) (lent _ _ _ _ _ _) _ _ (sym c.settle_fails.ensures ∙ c.if-settle_fails.taken)
+returns-then-settle_fails c = settled-refused (lent _ _ _ _ _ _) (lent _ _ _ _ _ _) _ _ (sym c.settle_fails.ensures ∙ c.if-settle_fails.true)
 
 pub ranges_in-first-requires : goal.ranges_in-first-requires
 ranges_in-first-requires c = (ok ((goal.at.ranges_in-first-requires c).Else-settle_fails)).ours.counts
@@ -41,7 +41,12 @@ pub strike-requires : goal.strike-requires
 strike-requires c = let g = ok (goal.at.strike-requires c).Else-settle_fails in
     let d = c.ranges_in-first.ensures in
     let e = c.ranges_in.ensures in
-    ((sized (ours (goal.at.strike-requires c).Else-settle_fails) g.ours, sized (theirs (goal.at.strike-requires c).Else-settle_fails) g.theirs), ((g.ours.seqs, g.theirs.seqs), ((count-first g _ _ d e, count-all g _ _ d e, part-size _ _ (count-space g _ _ d e), count-few g _ _ d e), (refl, refl))))
+    record {
+      sized = (sized (ours (goal.at.strike-requires c).Else-settle_fails) g.ours, sized (theirs (goal.at.strike-requires c).Else-settle_fails) g.theirs);
+      usable_in_bounds = (g.ours.seqs, g.theirs.seqs);
+      first_value = (count-first g _ _ d e, count-all g _ _ d e, part-size _ _ (count-space g _ _ d e), count-few g _ _ d e);
+      over_value = (refl, refl);
+    }
 
 pub tag_names-requires : goal.tag_names-requires
 tag_names-requires c = let g = ok (goal.at.tag_names-requires c).Else-settle_fails in (g.ours.lens, g.ours.names, array-room {A = ℕ} 0 (ours (goal.at.tag_names-requires c).Else-settle_fails) g.ours)
@@ -53,7 +58,10 @@ pub write_marks-requires : goal.write_marks-requires
 write_marks-requires c = let g = ok (goal.at.write_marks-requires c).Else-settle_fails in
     let u = ours (goal.at.write_marks-requires c).Else-settle_fails in
     let v = theirs (goal.at.write_marks-requires c).Else-settle_fails in
-    ((listed u g.ours c.tag_names.last.1.1.1.0 (array-more {A = ℕ} 0 u g.ours c.tag_names.last.1.1.1.0 c.tag_names.kept.1.1.1.0) c.tag_names.ensures, listed v g.theirs c.tag_names-2.last.1.1.1.0 (array-more {A = ℕ} 0 v g.theirs c.tag_names-2.last.1.1.1.0 c.tag_names-2.kept.1.1.1.0) c.tag_names-2.ensures), (array-more false u g.ours c.strike.last.1.1.1.1.1.1.1.1.1.1.1.0 c.strike.kept.1.1.1.1.1.1.1.1.1.1.1.0, array-more false u g.ours c.strike.last.1.1.1.1.1.1.1.1.1.1.1.1.0 c.strike.kept.1.1.1.1.1.1.1.1.1.1.1.1.0, g.room, λ i h. short-at u g.ours i h g.names))
+    record {
+      listed = (listed u g.ours c.tag_names.new.tags (array-more {A = ℕ} 0 u g.ours c.tag_names.new.tags c.tag_names.auto.tags) c.tag_names.ensures, listed v g.theirs c.tag_names-2.new.tags (array-more {A = ℕ} 0 v g.theirs c.tag_names-2.new.tags c.tag_names-2.auto.tags) c.tag_names-2.ensures);
+      usable_in_bounds = (array-more false u g.ours c.strike.new.over c.strike.auto.over, array-more false u g.ours c.strike.new.under c.strike.auto.under, g.room, λ i h. short-at u g.ours i h g.names);
+    }
 
 pub returns : goal.returns
 returns c = let a = c.args in

@@ -20,4 +20,7 @@ pub slice_bounds-room-end : goal.slice_bounds-room-end
 slice_bounds-room-end c = omega (arith, c.loop-i.invariant.enough, c.loop-i.invariant.below)
 
 pub returns : goal.returns
-returns c = (copy-ends c.loop-i.invariant c.loop-i-test.false ∙ ap as_bytes c.first-fitting.ensures, ap (λ (o : ℕ). (c.args.room.ptr.0, o)) (zero-add _))
+returns c = record {
+  result_value = copy-ends c.loop-i.invariant c.loop-i-test.false ∙ ap as_bytes c.first-fitting.ensures;
+  ref_ptr_value = ap (λ (o : ℕ). (c.args.room.ref_ptr.0, o)) (zero-add _);
+}

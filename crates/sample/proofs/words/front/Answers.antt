@@ -7,7 +7,10 @@ use lib.Seq.{take_all}
 use Rattle.sample.proofs.words.front.Goals as goal
 
 pub returns-then-n-slots : goal.returns-then-n-slots
-returns-then-n-slots c = (ap (λ (k : ℕ). take k c.args.slots.now) (sub-zero c.args.n), ap (λ (o : ℕ). (c.args.slots.ref_ptr.0, o)) (zero-add _))
+returns-then-n-slots c = record {
+  result_value = ap (λ (k : ℕ). take k c.args.slots.now) (sub-zero c.args.n);
+  ref_ptr_value = ap (λ (o : ℕ). (c.args.slots.ref_ptr.0, o)) (zero-add _);
+}
 
 pub returns : goal.returns
-returns c = (sym (take_all c.args.n c.args.slots.now c.if-n-slots.false), refl)
+returns c = record { result_value = sym (take_all c.args.n c.args.slots.now c.if-n-slots.false); ref_ptr_value = refl }

@@ -4,4 +4,7 @@ use native.Mathlib.Omega.{arith}
 use Rattle.sample.proofs.words.past_list.Goals as goal
 
 pub returns : goal.returns
-returns c = (c.past-2.ensures.result_value ∙ rw (c.past.ensures.result_value, c.at.ensures), let a = c.past.ensures.result_in_bounds in let b = c.past-2.ensures.result_in_bounds in omega arith)
+returns c = record {
+  result_value = c.past-2.ensures.result_value ∙ rw (c.past.ensures.result_value, c.at.ensures);
+  result_in_bounds = let a = c.past.ensures.result_in_bounds in let b = c.past-2.ensures.result_in_bounds in omega arith;
+}

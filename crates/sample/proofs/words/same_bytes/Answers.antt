@@ -11,7 +11,7 @@ pub loop-i-init : goal.loop-i-init
 loop-i-init c = match-begins _ _ c.if-bytes-numbers.false
 
 pub overflow_cast-bytes : goal.overflow_cast-bytes
-overflow_cast-bytes c = omega (arith, c.shared_slice_known-1.given c.loop-i.i)
+overflow_cast-bytes c = omega (arith, c.type_inv.bytes c.loop-i.i)
 
 pub returns-then-bytes-i : goal.returns-then-bytes-i
 returns-then-bytes-i c = match-stops c.loop-i.invariant c.if-bytes-i.true

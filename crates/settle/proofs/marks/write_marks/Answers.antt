@@ -11,7 +11,7 @@ pub loop-i-init : goal.loop-i-init
 loop-i-init c = writing_begins _ _ _ c.requires.usable_in_bounds.2
 
 pub renamed-named-requires : goal.renamed-named-requires
-renamed-named-requires c = let p = c.requires in ((p.0.0, c.loop-i-test.true, p.1.3 _ c.loop-i-test.true), p.0.1)
+renamed-named-requires c = let p = c.requires in record { listed = (p.listed.0, c.loop-i-test.true, p.usable_in_bounds.3 _ c.loop-i-test.true); listed_2 = p.listed.1 }
 
 pub bounds-over-i : goal.bounds-over-i
 bounds-over-i c = let h = c.loop-i-test.true in omega (arith, c.requires.usable_in_bounds.0)

@@ -1,8 +1,8 @@
 -- `settle::names::alike` meets its contract: the tags in front of j are counted.
-use mathlib.Core.Logic.{⊎_elim}
 use native.Mathlib.Omega.{arith}
 use Rattle.settle.proofs.Naming.{counting-begins, counting-on, counting-one, counting-ends}
 use Rattle.settle.proofs.names.alike.Goals as goal
+use Rattle.settle.proofs.names.alike.Goals.{then-tags-j, else-tags-j}
 
 pub loop-j-init : goal.loop-j-init
 loop-j-init c = counting-begins _ _ _ _ c.requires
@@ -20,7 +20,10 @@ pub overflow_add-j : goal.overflow_add-j
 overflow_add-j c = let g = c.loop-j.invariant in let h = c.loop-j-test.true in omega (arith, g.enough, g.few)
 
 pub loop-j-preserved : goal.loop-j-preserved
-loop-j-preserved c = let g = c.loop-j.invariant in ⊎_elim (λ u. rw u.1 (counting-one g)) (λ u. rw u.1 (counting-on g u.0.left)) c.if-tags-j.branch
+loop-j-preserved c = let g = c.loop-j.invariant in elim c.if-tags-j.branch [
+  | then-tags-j w ↦ rw w.n-is (counting-one g)
+  | else-tags-j w ↦ rw w.n-is (counting-on g w.if-tags-j.false)
+]
 
 pub returns : goal.returns
 returns c = counting-ends c.loop-j.invariant c.loop-j-test.false

@@ -11,7 +11,7 @@ pub returns-then-seqs-j : goal.returns-then-seqs-j
 returns-then-seqs-j c = sym (rival-lower _ _ _ _ _ _ _ c.if-seqs-j.true)
 
 pub overflow_cast-len : goal.overflow_cast-len
-overflow_cast-len c = omega (arith, c.shared_slice_known-6-1.given c.args.j)
+overflow_cast-len c = omega (arith, c.type_inv.lens c.args.j)
 
 pub returns-then-len-name : goal.returns-then-len-name
 returns-then-len-name c = sym (rival-longer _ _ _ _ _ _ _ c.if-len-name.true)

@@ -1,9 +1,9 @@
 -- `settle::names::search` meets its contract: where no other tag is alike there is nothing to search; else no record in front of j is a rival.
-use mathlib.Core.Logic.{⊎_elim}
 use mathlib.Core.Path.{sym, ◌∙◌}
 use native.Mathlib.Omega.{arith}
 use Rattle.settle.proofs.Naming.{alone-none, seek-begins, seek-on, seek-past, seek_found, seek-ends}
 use Rattle.settle.proofs.names.search.Goals as goal
+use Rattle.settle.proofs.names.search.Goals.{then-tags-j+else-rival, else-tags-j}
 
 pub alike-requires : goal.alike-requires
 alike-requires c = let p = c.requires in let h = p.0.tags-in in omega (arith, p.3)
@@ -24,7 +24,10 @@ pub returns-then-rival : goal.returns-then-rival
 returns-then-rival c = sym (seek_found c.loop-j.invariant c.loop-j-test.true (sym c.rival.ensures ∙ c.if-rival.true))
 
 pub loop-j-preserved : goal.loop-j-preserved
-loop-j-preserved c = let p = c.requires in ⊎_elim (λ u. seek-on c.loop-j.invariant c.loop-j-test.true (sym u.1.ensures ∙ u.2.left)) (λ u. seek-past c.loop-j.invariant c.loop-j-test.true _ p.0 p.1 (λ e. u.left (e ∙ sym p.2))) c.if-tags-j.branch
+loop-j-preserved c = let p = c.requires in elim c.if-tags-j.branch [
+  | then-tags-j+else-rival w ↦ seek-on c.loop-j.invariant c.loop-j-test.true (sym w.rival.ensures ∙ w.if-rival.false)
+  | else-tags-j w ↦ seek-past c.loop-j.invariant c.loop-j-test.true _ p.0 p.1 (λ e. w.if-tags-j.false (e ∙ sym p.2))
+]
 
 pub returns : goal.returns
 returns c = sym (seek-ends c.loop-j.invariant c.loop-j-test.false)

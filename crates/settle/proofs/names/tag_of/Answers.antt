@@ -10,10 +10,10 @@ pub overflow_mul-tag : goal.overflow_mul-tag
 overflow_mul-tag c = let g = c.loop-i.invariant in omega (arith, g.small)
 
 pub overflow_cast-tag : goal.overflow_cast-tag
-overflow_cast-tag c = omega (arith, c.shared_slice_known-1.given c.loop-i.i)
+overflow_cast-tag c = omega (arith, c.type_inv.name c.loop-i.i)
 
 pub overflow_add-tag : goal.overflow_add-tag
-overflow_add-tag c = let g = c.loop-i.invariant in omega (arith, g.small, c.shared_slice_known-1.given c.loop-i.i)
+overflow_add-tag c = let g = c.loop-i.invariant in omega (arith, g.small, c.type_inv.name c.loop-i.i)
 
 pub loop-i-preserved : goal.loop-i-preserved
 loop-i-preserved c = mix-on c.loop-i.invariant c.loop-i-test.true

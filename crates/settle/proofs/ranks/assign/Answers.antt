@@ -1,10 +1,10 @@
 -- `settle::ranks::assign` meets its contract: the first t keys' places have their ranks.
-use mathlib.Core.Logic.{⊎_elim}
 use mathlib.Core.Path.{refl}
 use native.Mathlib.Omega.{arith}
 use Rattle.numbers.proofs.Pairs.{pair-in, half_in, half_out}
 use Rattle.settle.proofs.Ranking.{walking-begins, walking-place, walking-same, walking-next, walking-ends}
 use Rattle.settle.proofs.ranks.assign.Goals as goal
+use Rattle.settle.proofs.ranks.assign.Goals.{then-pair_at-next, else-pair_at-next}
 
 pub loop-t-init : goal.loop-t-init
 loop-t-init c = walking-begins _ _
@@ -26,7 +26,10 @@ overflow_add-t c = omega (arith, pair-in _ _ (half_in c.args.keys.now _ _ refl c
 
 pub loop-t-preserved : goal.loop-t-preserved
 loop-t-preserved c = let p = c.requires in let h = half_in _ _ _ refl c.loop-t-test.true in
-    ⊎_elim (λ u. walking-next p.0 p.1 c.loop-t.invariant h _ _ c.pair_at-next.ensures c.pair_at.ensures _ u.1 u.0.taken) (λ u. walking-same p.0 p.1 c.loop-t.invariant h _ _ c.pair_at-next.ensures c.pair_at.ensures _ u.1 u.0.left) c.if-pair_at-next.branch
+    elim c.if-pair_at-next.branch [
+      | then-pair_at-next w ↦ walking-next p.0 p.1 c.loop-t.invariant h _ _ c.pair_at-next.ensures c.pair_at.ensures _ w.rank-is w.if-pair_at-next.true
+      | else-pair_at-next w ↦ walking-same p.0 p.1 c.loop-t.invariant h _ _ c.pair_at-next.ensures c.pair_at.ensures _ w.rank-is w.if-pair_at-next.false
+    ]
 
 pub shape_of-ranks : goal.shape_of-ranks
 shape_of-ranks c = c.loop-t.invariant.size
