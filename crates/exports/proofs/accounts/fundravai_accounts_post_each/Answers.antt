@@ -1,25 +1,30 @@
 -- `exports::accounts::fundravai_accounts_post_each` meets its contract: each turn is one posting.
-use Prim.Native.Nat.{ℕ, ◌+◌, ◌<◌}
+use Prim.Native.Nat.{ℕ, ◌+◌, ◌<◌, ◌≤◌}
 use mathlib.Core.Bool.{Bool}
 use mathlib.Core.List.{List}
 use mathlib.Core.Path.{refl}
 use native.Mathlib.Omega.{arith}
-use lib.ListN.{length, get_or}
+use lib.ListN.{length, get_or, drop}
 use borrow.Author.Tests.{eq-eqb, ne_eqb}
-use Rattle.accounting.specs.Entries.{usage, differ}
+use Rattle.accounting.specs.Entries.{usage, usages, differ}
 use Rattle.accounting.specs.declared.Accounting.{Accounting}
 use Rattle.accounting.specs.declared.Posted.{Posted}
 use Rattle.exports.specs.Each.{Post, posted}
 use Rattle.accounting.proofs.Counting.{usages-next, usages-end}
-use Rattle.flat.proofs.Chaining.{going-begins, going_on, going-ends}
+use Rattle.flat.proofs.Chaining.{Going, going-begins, going_on, going-ends}
 use Rattle.numbers.proofs.Cases.{clash}
 use Rattle.exports.proofs.accounts.fundravai_accounts_post_each.Goals as goal
 
+-- the first i postings are made
+abbrev Turned : Bool → List ℕ → List ℕ → List ℕ → Accounting → Accounting → ℕ → ℕ → Type 0
+Turned remove tags logical physical a₀ a refusal i =
+    (i ≤ length tags) × Going (Post remove) (usages tags logical physical) (posted 0 a₀) (usages (drop i tags) (drop i logical) (drop i physical)) (posted refusal a)
+
 -- one posting more
 turns : (remove : Bool) (tags logical physical : List ℕ) (a₀ a : Accounting) (refusal i : ℕ) (t : Posted) → i < length tags
-    → invariant-loop remove tags logical physical a₀ 0 0 a refusal i
+    → Turned remove tags logical physical a₀ a refusal i
     → Post remove (usage (get_or tags i 0) (get_or logical i 0) (get_or physical i 0)) (posted refusal a) t
-    → invariant-loop remove tags logical physical a₀ 0 0 t.accounts t.refusal (i + 1)
+    → Turned remove tags logical physical a₀ t.accounts t.refusal (i + 1)
 turns remove _ _ _ _ _ _ i t h v p = (omega arith, going_on (Post remove) _ _ v.1 (usages-next _ _ _ i h) p)
 
 pub returns-then-tags-logical : goal.returns-then-tags-logical

@@ -22,5 +22,7 @@ pub shape_of-out : goal.shape_of-out
 shape_of-out c = c.loop-i.invariant.0.whole
 
 pub returns : goal.returns
-returns c =
-    (all-ends c.args.self c.loop-i.invariant.0 c.loop-i.invariant.1 (omega arith), (all-length c.args.self c.loop-i.invariant.0 c.loop-i.invariant.1 (omega arith), omega (arith, c.loop-i.invariant.0.few)))
+returns c = record {
+  lays = all-ends c.args.self c.loop-i.invariant.0 c.loop-i.invariant.1 (omega arith);
+  value = (all-length c.args.self c.loop-i.invariant.0 c.loop-i.invariant.1 (omega arith), omega (arith, c.loop-i.invariant.0.few));
+}

@@ -5,7 +5,7 @@ use Rattle.plan_record.proofs.footprints.lay.Goals as goal
 
 pub returns : goal.returns
 returns c =
-    (
-      lays-footprint c.args.extents.now c.args.region c.requires.0 _ _ _ _ _ _ _ _ refl refl c.put_pair.ensures c.put_pair-2.ensures c.lay_extents.ensures c.put_pair.auto.s (c.put_pair-2.auto.s ∙ c.put_pair.auto.s),
-      omega (arith, laid-length c.args.extents.now c.args.region c.requires.0 c.args.block, c.own_count.ensures),
-    )
+    record {
+      lays = lays-footprint c.args.extents.now c.args.region c.requires.0 _ _ _ _ _ _ _ _ refl refl c.put_pair.ensures c.put_pair-2.ensures c.lay_extents.ensures c.put_pair.auto.s (c.put_pair-2.auto.s ∙ c.put_pair.auto.s);
+      value = omega (arith, laid-length c.args.extents.now c.args.region c.requires.0 c.args.block, c.own_count.ensures);
+    }
