@@ -31,7 +31,7 @@ returns-then-posted-ne0 c =
 
 pub add_region-requires : goal.add_region-requires
 add_region-requires c =
-    (c.create_refusal-refusal.ensures.few c.if-refusal-ne0.false, below ((goal.at.add_region-requires c).After-counted-1), c.create_refusal-refusal.ensures.short c.if-refusal-ne0.false)
+    (c.create_refusal-refusal.ensures.few c.if-refusal-ne0.false, below (goal.at.add_region-requires c).Else-refusal-ne0, c.create_refusal-refusal.ensures.short c.if-refusal-ne0.false)
 
 pub returns : goal.returns
 returns c =

@@ -45,15 +45,15 @@ returns-then-posted-ne0 c =
 
 pub slice_bounds-extend-end : goal.slice_bounds-extend-end
 slice_bounds-extend-end c =
-    omega (arith, (long ((goal.at.slice_bounds-extend-end c).After-map-1)).0, c.own_row-a.ensures)
+    omega (arith, (long (goal.at.slice_bounds-extend-end c).Else-lists_short).0, c.own_row-a.ensures)
 
 pub slice_bounds-extend-end-2 : goal.slice_bounds-extend-end-2
 slice_bounds-extend-end-2 c =
-    omega (arith, (long ((goal.at.slice_bounds-extend-end-2 c).After-extend-arg-1)).1, c.own_row-a.ensures)
+    omega (arith, (long (goal.at.slice_bounds-extend-end-2 c).Else-lists_short).1, c.own_row-a.ensures)
 
 pub returns-in_default : goal.returns-in_default
 returns-in_default c =
-    rw c.refuse-in_default.ensures (grow-stuck c.args.plan _ _ _ _ _ _ c.find-i.ensures c.counted.ensures.0 c.if-i-counted.false _ c.grow_refusal-refusal.ensures c.if-refusal-ne0.false _ (len-at c.args.plan c.find-i.result c.step_at.ensures.0 c.block_of.ensures.0) _ _ c.seek-room.ensures (not-false _ c.if-not-room.false) _ c.add_usage-posted.ensures _ c.own_row-a.ensures (long ((goal.at.returns-in_default c).After-refuse-in_default)).0 (long ((goal.at.returns-in_default c).After-refuse-in_default)).1 _ _ _ c.extend.ensures _ c.in_default.is (short-is _ _ _ ∙ sym c.lists_short.ensures ∙ c.if-lists_short.false))
+    rw c.refuse-in_default.ensures (grow-stuck c.args.plan _ _ _ _ _ _ c.find-i.ensures c.counted.ensures.0 c.if-i-counted.false _ c.grow_refusal-refusal.ensures c.if-refusal-ne0.false _ (len-at c.args.plan c.find-i.result c.step_at.ensures.0 c.block_of.ensures.0) _ _ c.seek-room.ensures (not-false _ c.if-not-room.false) _ c.add_usage-posted.ensures _ c.own_row-a.ensures (long (goal.at.returns-in_default c).Else-lists_short).0 (long (goal.at.returns-in_default c).Else-lists_short).1 _ _ _ c.extend.ensures _ c.in_default.is (short-is _ _ _ ∙ sym c.lists_short.ensures ∙ c.if-lists_short.false))
 
 pub overflow_add-a : goal.overflow_add-a
 overflow_add-a c =
@@ -73,4 +73,4 @@ bounds-plan-i-2 c =
 
 pub returns : goal.returns
 returns c =
-    rw c.stretch.ensures (grow-done c.args.plan _ _ _ _ _ _ c.find-i.ensures c.counted.ensures.0 c.if-i-counted.false _ c.grow_refusal-refusal.ensures c.if-refusal-ne0.false _ (len-at c.args.plan c.find-i.result c.step_at.ensures.0 c.block_of.ensures.0) _ _ c.seek-room.ensures (not-false _ c.if-not-room.false) _ c.add_usage-posted.ensures _ c.own_row-a.ensures (long ((goal.at.returns c).After-counted-1)).0 (long ((goal.at.returns c).After-counted-1)).1 _ _ _ c.extend.ensures _ c.in-Map.is _ _ refl c.put_pair.ensures (full ((goal.at.returns c).After-counted-1)) c.counted.ensures.1 (short-is _ _ _ ∙ sym c.lists_short.ensures ∙ c.if-lists_short.false))
+    rw c.stretch.ensures (grow-done c.args.plan _ _ _ _ _ _ c.find-i.ensures c.counted.ensures.0 c.if-i-counted.false _ c.grow_refusal-refusal.ensures c.if-refusal-ne0.false _ (len-at c.args.plan c.find-i.result c.step_at.ensures.0 c.block_of.ensures.0) _ _ c.seek-room.ensures (not-false _ c.if-not-room.false) _ c.add_usage-posted.ensures _ c.own_row-a.ensures (long (goal.at.returns c).Else-lists_short).0 (long (goal.at.returns c).Else-lists_short).1 _ _ _ c.extend.ensures _ c.in-Map.is _ _ refl c.put_pair.ensures (full (goal.at.returns c).Start) c.counted.ensures.1 (short-is _ _ _ ∙ sym c.lists_short.ensures ∙ c.if-lists_short.false))
