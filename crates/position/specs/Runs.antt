@@ -2,7 +2,7 @@
 use Rattle.std.specs.Prelude.{ℕ, List, [], ◌∷◌}
 use Rattle.std.proofs.Math.Option.{Option}
 use base.Fml.{GName, Lft}
-use Rattle.std.specs.Borrow.{Bor}
+use Rattle.std.specs.Borrow.{Bor, MutBor}
 use Rattle.model.specs.Calls.{Call, create, grow, publish, drop, cap, locate}
 use Rattle.footprint.specs.declared.Limits.{Limits}
 use Rattle.model.specs.Open.{Opening}
@@ -43,8 +43,11 @@ pub record Loan : Type 0 where
   pub ptr : ℕ × ℕ
   pub name : GName
 
--- The reference that is passed, with what the list holds.
-abbrev pub lend : Loan → List ℕ → Bor (List ℕ)
+-- The references that are passed, with what the list holds: one to write by, and one to read by alone, which has no ghost name.
+abbrev pub show : Loan → List ℕ → Bor (List ℕ)
+show l xs = record { ref_ptr = l.ptr; now = xs }
+
+abbrev pub lend : Loan → List ℕ → MutBor (List ℕ)
 lend l xs = record { ref_ptr = l.ptr; ghost_name = l.name; now = xs }
 
 -- The loans of a call: of the three lists of the plan, and of a name.
@@ -69,11 +72,11 @@ abbrev pub OpensWith : Loans → (listed scratch : Loan) → Arguments → (s : 
 OpensWith l a b o s h r t k =
     open-reads.Learnt (a.lifetime, (b.lifetime, (l.extents.lifetime, (l.starts.lifetime, (l.files.lifetime, tt))))) (
       o.limits,
-      (o.records, (o.count, (lend a o.listed, (lend b s, (lend l.extents h.extents, (lend l.starts h.starts, (lend l.files h.files, tt))))))),
+      (o.records, (o.count, (show a o.listed, (lend b s, (lend l.extents h.extents, (lend l.starts h.starts, (lend l.files h.files, tt))))))),
     )
     r (
       o.limits,
-      (o.records, (o.count, (lend a o.listed, (lend b t, (lend l.extents k.extents, (lend l.starts k.starts, (lend l.files k.files, tt))))))),
+      (o.records, (o.count, (show a o.listed, (lend b t, (lend l.extents k.extents, (lend l.starts k.starts, (lend l.files k.files, tt))))))),
     )
 
 -- What these arguments say to the model.
@@ -84,9 +87,9 @@ opening_with o s h = opening_of o.limits o.records o.count o.listed s h.extents 
 abbrev pub Creates : Loans → Whole → (id tag : ℕ) → List ℕ → Outcome → Whole → Type 0
 Creates l h id tag name r k =
     create-reads.Learnt (l.extents.lifetime, (l.starts.lifetime, (l.files.lifetime, (l.name.lifetime, tt))))
-    (h.plan, (lend l.extents h.extents, (lend l.starts h.starts, (lend l.files h.files, (id, (tag, (lend l.name name, tt)))))))
+    (h.plan, (lend l.extents h.extents, (lend l.starts h.starts, (lend l.files h.files, (id, (tag, (show l.name name, tt)))))))
     r
-    (h.plan, (lend l.extents k.extents, (lend l.starts k.starts, (lend l.files k.files, (id, (tag, (lend l.name name, tt)))))))
+    (h.plan, (lend l.extents k.extents, (lend l.starts k.starts, (lend l.files k.files, (id, (tag, (show l.name name, tt)))))))
 
 -- `plan::grow(plan, extents, starts, files, id)`
 abbrev pub Grows : Loans → Whole → ℕ → Outcome → Whole → Type 0
@@ -115,9 +118,9 @@ Caps h tag limit r = cap-reads.Learnt tt (h.plan, (tag, (limit, tt))) r (h.plan,
 abbrev pub Locates : Loans → Whole → (id pos n : ℕ) → Reply → Type 0
 Locates l h id pos n r =
     locate-reads.Learnt (l.starts.lifetime, (l.files.lifetime, tt))
-    (h.plan, (lend l.starts h.starts, (lend l.files h.files, (id, (pos, (n, tt))))))
+    (h.plan, (show l.starts h.starts, (show l.files h.files, (id, (pos, (n, tt))))))
     r
-    (h.plan, (lend l.starts h.starts, (lend l.files h.files, (id, (pos, (n, tt))))))
+    (h.plan, (show l.starts h.starts, (show l.files h.files, (id, (pos, (n, tt))))))
 
 -- The figures: `held(plan)`, `free(plan)`, `physical(plan, tag)` and `logical(plan, tag)`.
 abbrev pub HeldTold : Whole → ℕ → Type 0

@@ -2,4 +2,4 @@
 use Rattle.plan_exports.proofs.fundravai_plan_open.Goals as goal
 
 pub returns : goal.returns
-returns c = record { outcome = (goal.at.returns c).After-open-outcome.«open».result; promise = rw (← c.records_from-records.ensures) (goal.at.returns c).After-open-outcome.«open».ensures; flat = c.flat_outcome.ensures }
+returns c = record { outcome = c.open-outcome.result; promise = rw (← c.records_from-records.ensures) c.open-outcome.ensures; flat = c.flat_outcome.ensures }
