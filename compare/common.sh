@@ -14,11 +14,13 @@ command -v rt >/dev/null 2>&1 || lacking "the Rattle kit is not at hand"
 [ -d "$root/../shared/docs/src/crates" ] || lacking "the Rust sources are not at hand: ../shared/docs/src is missing"
 
 cd "$root" || exit 2
+mkdir -p target/staticlib
 for name in exports plan_exports; do
-  if ! log=$(rt staticlib "$name" 2>&1); then
+  if ! log=$(cd "crates/$name" && rt lib 2>&1); then
     echo "$log"
     exit 2
   fi
+  cp "crates/$name/out/lib$name.a" target/staticlib/ || exit 2
 done
 export EXPORTS="$root/target/staticlib"
 cd "$here" || exit 2

@@ -1,4 +1,4 @@
-//! Links the libraries that `rt staticlib` writes; the scripts say where they are.
+//! Links the libraries that `rt lib` writes; the scripts say where they are.
 
 fn main() {
     println!("cargo:rerun-if-env-changed=EXPORTS");

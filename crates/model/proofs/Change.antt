@@ -11,7 +11,7 @@ use lib.Pow.{pow_pos, pow-add}
 use borrow.Author.Tests.{ltb-false, leb-true, leb-false, le-leb, eqb-true, eqb-false, not-false}
 use Rattle.footprint.specs.Footprint.{kind_code}
 use Rattle.footprint.specs.declared.RegionKind.TheVariants.{Slot}
-use Rattle.model.specs.Calls.{known, tag_full, cap_fails, region_in, with_regions, step, step_len, grow_tests, grown, publish_tests, published_to, dropped, capped, published_at}
+use Rattle.model.specs.Calls.{tag_full, cap_fails, region_in, with_regions, step, step_len, grow_tests, grown, publish_tests, published_to, dropped, capped, published_at}
 use Rattle.model.specs.Region.{Region, capacity, footprint, footprints, id_of, on_region}
 use Rattle.model.specs.Span.{FreeSpan}
 use Rattle.model.specs.World.{World, TagRow, tag_row, tag_of}

@@ -11,7 +11,7 @@ use Rattle.model.specs.Region.{Region, capacity, footprint, footprint_len, id_of
 use Rattle.model.specs.World.{World, block, held_ranges, held, free, of_tag, physical, logical}
 use Rattle.numbers.specs.Keyed.{HasKey}
 use Rattle.numbers.specs.Lists.{All}
-use Rattle.numbers.specs.Range.{Within, total}
+use Rattle.numbers.specs.Range.{Within}
 use Rattle.numbers.specs.Sums.{top, sum}
 use Rattle.model.proofs.Regions.{all-footprints, footprints-total, if_tag, sum_tag, sum-without}
 use Rattle.model.proofs.Sound.{Regular, Sound}

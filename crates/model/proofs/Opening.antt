@@ -18,7 +18,6 @@ use Rattle.numbers.specs.Keyed.{HasKey, InKeyOrder}
 use Rattle.numbers.specs.Lists.{All, any, Distinct}
 use Rattle.numbers.specs.Pairs.{is_odd, pairs}
 use Rattle.numbers.specs.Range.{Range, Disjoint, Within}
-use Rattle.numbers.specs.Refusals.{first}
 use Rattle.numbers.specs.Sums.{sum}
 use Rattle.settle.specs.Inner.{no_region}
 use Rattle.settle.specs.Settle.{overlapped, renamed, mark_of, marks_of}

@@ -8,7 +8,7 @@ use Rattle.model.specs.Span.{least_free, is_none, or_zero}
 use Rattle.model.specs.World.{World, TagRow, tag_row, block, account_of, has_row, put_row, with_tag}
 use Rattle.numbers.specs.Keyed.{has_key}
 use Rattle.numbers.specs.Lists.{any, same}
-use Rattle.numbers.specs.Range.{Range, range}
+use Rattle.numbers.specs.Range.{range}
 use Rattle.numbers.specs.Refusals.{refuse, first, Answer, answer, number_of, value_or}
 use Rattle.numbers.specs.Sums.{top}
 use Rattle.regionmap.specs.Map.{run_of}

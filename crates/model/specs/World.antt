@@ -1,5 +1,5 @@
 -- Document 01, "The plan (added)": what open's arguments and the calls make of a container: regions, tags, and which bytes are held.
-use Rattle.std.specs.Prelude.{ℕ, Bool, List, [], ◌∷◌, map, eqb}
+use Rattle.std.specs.Prelude.{ℕ, Bool, List, map, eqb}
 use Rattle.footprint.specs.Footprint.{block_of}
 use Rattle.footprint.specs.declared.Limits.{Limits}
 use Rattle.freemap.specs.Gaps.{gaps_of}

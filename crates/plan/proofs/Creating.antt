@@ -28,7 +28,7 @@ use Rattle.plan.specs.Calls.{Called}
 use Rattle.plan.specs.Inner.{refusing, Seeks, fresh, CreateTested, with_new, Adds}
 use Rattle.regionmap.specs.declared.RegionMap.{RegionMap}
 use Rattle.runs.specs.Runs.{runs_from, joined, not_empty}
-use Rattle.tagspace.specs.Row.{add_usage, fits}
+use Rattle.tagspace.specs.Row.{add_usage}
 use Rattle.model.proofs.Create.{creates}
 use Rattle.model.proofs.Regions.{if_tag}
 use Rattle.model.proofs.Spans.{least-found, block-some}

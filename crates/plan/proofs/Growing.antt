@@ -1,7 +1,7 @@
 -- What each return of `grow` promises.
 use Prim.Native.Nat.{ℕ, ◌+◌, ◌-◌, ◌*◌, ◌≤◌, ◌<◌, min}
 use mathlib.Core.Bool.{Bool, true, false, not}
-use mathlib.Core.List.{List, [], ◌∷◌, ◌++◌, map}
+use mathlib.Core.List.{List, [], ◌∷◌, ◌++◌}
 use mathlib.Core.Logic.{inl, inr}
 use mathlib.Core.Option.{some, none}
 use mathlib.Core.Path.{◌≡◌, refl, ap, sym, subst, ◌∙◌}
@@ -19,7 +19,7 @@ use Rattle.footprint.specs.declared.RegionKind.TheVariants.{Slot}
 use Rattle.model.specs.Span.{least_free}
 use Rattle.numbers.specs.Pairs.{pairs}
 use Rattle.numbers.specs.Range.{range}
-use Rattle.numbers.specs.Refusals.{refuse, first, accepted, answer}
+use Rattle.numbers.specs.Refusals.{refuse, first, accepted}
 use Rattle.numbers.specs.Sums.{top, stop}
 use Rattle.plan_record.specs.Inner.{block_in}
 use Rattle.plan_record.specs.Plan.{row_in, places, lists_short, region_of, regions_of, world_of, Mapped, Valid, spot_of, past_region}
@@ -32,7 +32,7 @@ use Rattle.regionmap.specs.declared.Mapped.{Mapped as Answered}
 use Rattle.regionmap.specs.declared.RegionMap.{RegionMap}
 use Rattle.sort.specs.Places.{range_of, Put}
 use Rattle.sort.specs.declared.pair.Pair.{Pair}
-use Rattle.tagspace.specs.Row.{add_usage, fits}
+use Rattle.tagspace.specs.Row.{add_usage}
 use Rattle.model.proofs.Change.{step-len-some}
 use Rattle.model.proofs.Figures.{footprint-len, held-and-free}
 use Rattle.model.proofs.Regions.{known-true, if_tag}

@@ -1,7 +1,7 @@
 -- What each return of `publish` promises.
 use Prim.Native.Nat.{ℕ, ◌+◌, ◌-◌, ◌%◌, ◌^◌, ◌≤◌, ◌<◌, min, max}
 use mathlib.Core.Bool.{true}
-use mathlib.Core.List.{List, [], map}
+use mathlib.Core.List.{List, []}
 use mathlib.Core.Logic.{⊎_elim}
 use mathlib.Core.Path.{◌≡◌, refl, ap, sym, subst, ◌∙◌}
 use native.Mathlib.Omega.{arith}
@@ -10,7 +10,7 @@ use lib.ListN.{length}
 use borrow.Author.Tests.{eq-eqb, ne_eqb, lt-ltb, le-ltb}
 use Rattle.accounting.specs.declared.Posted.{Posted}
 use Rattle.model.specs.Calls.{publish, known, region_in, refusal_to, byte_for, accept, published_to, published_at}
-use Rattle.numbers.specs.Refusals.{answer, refuse, first}
+use Rattle.numbers.specs.Refusals.{refuse, first}
 use Rattle.plan_record.specs.Plan.{row_in, region_of, regions_of, world_of, Mapped, Valid, spot_of}
 use Rattle.plan_record.specs.declared.Plan.{Plan}
 use Rattle.plan_record.specs.declared.Region.{Region}

@@ -7,7 +7,7 @@ use native.Mathlib.Omega.{arith}
 use lib.Dec.{ltb}
 use lib.ListN.{length}
 use borrow.Author.Tests.{le-ltb, ltb-false}
-use Rattle.model.specs.Calls.{Call, refusal_to, byte_for, accept, next}
+use Rattle.model.specs.Calls.{Call, refusal_to, byte_for, accept}
 use Rattle.numbers.specs.Refusals.{accepted}
 use Rattle.plan_record.specs.Plan.{Valid, world_of, reply_of, lists_short, places}
 use Rattle.plan_record.specs.declared.Outcome.{Outcome}

@@ -17,7 +17,7 @@ use Rattle.plan_record.specs.declared.Region.{Region}
 use Rattle.model.proofs.Opening.{listed_by}
 use Rattle.numbers.proofs.Cases.{by-eq}
 use Rattle.numbers.proofs.Pairs.{length_pairs}
-use Rattle.plan_checks.proofs.Along.{Along, along-begins, this, own, own-part, along-on}
+use Rattle.plan_checks.proofs.Along.{Along, along-begins, this, own-part, along-on}
 use Rattle.plan_checks.proofs.Reading.{records-length, record-at}
 use Rattle.plan_open.proofs.Looping.{row-set}
 use Rattle.plan_open.proofs.Parts.{put-behind, row_put, row_keep, pair-rows}

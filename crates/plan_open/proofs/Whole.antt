@@ -13,13 +13,13 @@ use Rattle.model.specs.World.{World, account_of}
 use Rattle.numbers.specs.Lists.{Distinct}
 use Rattle.numbers.specs.Pairs.{pairs}
 use Rattle.numbers.specs.Range.{Range, total}
-use Rattle.numbers.specs.Sums.{top, sum}
+use Rattle.numbers.specs.Sums.{top}
 use Rattle.plan_checks.specs.Opening.{blank_record, records_of}
 use Rattle.plan_open.specs.Accounts.{Accounted}
 use Rattle.plan_open.specs.Build.{Accepted, own_of, Fitting, Filled, Built}
 use Rattle.plan_open.specs.Open.{places_of}
 use Rattle.plan_open.specs.Rows.{Fit, region_with, Rowed}
-use Rattle.plan_record.specs.Plan.{Valid, Mapped, world_of, region_of, rows_of, row_of, row_in, cap_of, past_region}
+use Rattle.plan_record.specs.Plan.{Mapped, world_of, region_of, rows_of, row_of, row_in, cap_of, past_region}
 use Rattle.plan_record.specs.declared.Plan.{Plan}
 use Rattle.plan_record.specs.declared.Record.{Record}
 use Rattle.plan_record.specs.declared.Region.{Region}

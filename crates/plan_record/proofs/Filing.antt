@@ -12,7 +12,7 @@ use lib.Seq.{sets-eq, drop-drop, length-take-le, take-length}
 use borrow.Author.Tests.{le-ltb, lt-ltb}
 use Rattle.numbers.specs.Pairs.{pairs, flat}
 use Rattle.numbers.specs.Range.{Range, total}
-use Rattle.numbers.specs.Refusals.{answer, refuse}
+use Rattle.numbers.specs.Refusals.{refuse}
 use Rattle.numbers.specs.Sums.{sum}
 use Rattle.plan_record.specs.Inner.{region_extents, record_for, Lays}
 use Rattle.plan_record.specs.Plan.{places, region_of, regions_of, world_of, Valid}

@@ -15,7 +15,7 @@ use Rattle.model.specs.World.{held_ranges}
 use Rattle.numbers.specs.Lists.{All}
 use Rattle.numbers.specs.Pairs.{pairs}
 use Rattle.numbers.specs.Powers.{is_power_of_two}
-use Rattle.numbers.specs.Refusals.{accepted, refused}
+use Rattle.numbers.specs.Refusals.{accepted}
 use Rattle.plan_record.specs.Inner.{block_in, region_extents, laid, laid_each, laid_all, Lays}
 use Rattle.plan_record.specs.Plan.{region_of, regions_of, world_of, Mapped, Valid}
 use Rattle.plan_record.specs.Promises.{Fits}

@@ -1,6 +1,5 @@
 -- The steps of settlement at open; but for `Block`, no public call promises anything by these.
-use Rattle.std.specs.Prelude.{ℕ, ◌*◌, ◌%◌, ◌≤◌, ◌<◌, Bool, not, List, [], ◌∷◌, ◌++◌, map, ◌≡◌, eqb, length}
-use Rattle.footprint.specs.Footprint.{block_of}
+use Rattle.std.specs.Prelude.{ℕ, ◌*◌, ◌%◌, ◌≤◌, Bool, not, List, [], ◌∷◌, ◌++◌, map, ◌≡◌, eqb, length}
 use Rattle.footprint.specs.declared.Limits.{Limits}
 use Rattle.model.specs.Region.{Region}
 use Rattle.numbers.specs.Lists.{All, written}

@@ -1,5 +1,5 @@
 -- The theorem's premise is met: an open with two records, of which one has two extents that join and the other an extra one.
-use Rattle.std.specs.Prelude.{ℕ, ◌-◌, List, [], ◌∷◌, ◌++◌, ◌≡◌, length, replicate}
+use Rattle.std.specs.Prelude.{ℕ, ◌-◌, List, ◌∷◌, ◌++◌, ◌≡◌, length, replicate}
 use Rattle.model.specs.Open as model
 use Rattle.model.specs.Opens.{limits, record1, record2, two}
 use Rattle.plan_record.specs.Plan.{blank_plan}

@@ -4,7 +4,7 @@ use mathlib.Core.Bool.{true}
 use mathlib.Core.Path.{◌≡◌, ◌∙◌, sym}
 use native.Mathlib.Omega.{arith}
 use lib.Bits.{and_le_l}
-use borrow.Author.Tests.{le-leb, lt-leb, not-true, not-false}
+use borrow.Author.Tests.{le-leb, lt-leb}
 use Rattle.align.specs.Align.{align_up}
 use Rattle.numbers.specs.Powers.{is_power_of_two}
 use Rattle.numbers.specs.Sums.{top}
@@ -13,11 +13,11 @@ use Rattle.align.proofs.align_up.Goals as goal
 use Rattle.align.proofs.align_up.Goals.{Else-not-is_power_of_two}
 
 power : (c : Else-not-is_power_of_two) → is_power_of_two c.args.align ≡ true
-power c = sym c.is_power_of_two.ensures ∙ not-false _ c.if-not-is_power_of_two.false-raw
+power c = sym c.is_power_of_two.ensures ∙ c.if-not-is_power_of_two.false
 
 pub returns-then-not-is_power_of_two : goal.returns-then-not-is_power_of_two
 unfolding align_up
-returns-then-not-is_power_of_two c = simp (sym c.is_power_of_two.ensures ∙ not-true _ c.if-not-is_power_of_two.true-raw)
+returns-then-not-is_power_of_two c = simp (sym c.is_power_of_two.ensures ∙ c.if-not-is_power_of_two.true)
 
 pub overflow_sub-mask : goal.overflow_sub-mask
 overflow_sub-mask c = omega (arith, power_pos 64 _ (power (goal.at.overflow_sub-mask c).Else-not-is_power_of_two))

@@ -2,7 +2,7 @@ use Prim.Native.Nat.{◌/◌, ◌≤◌}
 use mathlib.Core.Path.{◌≡◌, sym, refl, ◌∙◌}
 use native.Mathlib.Nat.{mul-le-mul}
 use native.Mathlib.Omega.{arith}
-use lib.ListN.{length, length-map}
+use lib.ListN.{length}
 use borrow.Author.Tests.{not-true, not-false}
 use Rattle.plan_record.specs.Plan.{places}
 use Rattle.plan.proofs.Growing.{grows-short, grows-refused, len-at, grow-unknown, grow-refused, grow-no-room, grow-never, grow-stuck, grow-done}

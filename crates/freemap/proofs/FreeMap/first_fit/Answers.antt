@@ -1,6 +1,5 @@
 -- `freemap::FreeMap::first_fit` meets its contract: each refusal in order, then the search in the gaps that the record counts.
 use Rattle.std.proofs.Common.{◌≡◌, true, false, sym, ◌∙◌, arith}
-use borrow.Author.Tests.{not-true, not-false}
 use Rattle.freemap.specs.Gaps.{too_few}
 use Rattle.numbers.specs.Powers.{is_power_of_two}
 use Rattle.align.proofs.Least.{power_pos}
@@ -12,13 +11,13 @@ counted : (c : Else-too_few) → too_few c.args.self c.args.gaps.now ≡ false
 counted c = sym c.too_few.ensures ∙ c.if-too_few.false
 
 power : (c : Else-not-is_power_of_two) → is_power_of_two c.args.align ≡ true
-power c = sym c.is_power_of_two.ensures ∙ not-false _ c.if-not-is_power_of_two.false-raw
+power c = sym c.is_power_of_two.ensures ∙ c.if-not-is_power_of_two.false
 
 pub returns-then-too_few : goal.returns-then-too_few
 returns-then-too_few c = fit-few _ _ _ _ _ (sym c.too_few.ensures ∙ c.if-too_few.true)
 
 pub returns-then-not-is_power_of_two : goal.returns-then-not-is_power_of_two
-returns-then-not-is_power_of_two c = fit-no-power _ _ _ _ _ (counted (goal.at.returns-then-not-is_power_of_two c).Else-too_few) (sym c.is_power_of_two.ensures ∙ not-true _ c.if-not-is_power_of_two.true-raw)
+returns-then-not-is_power_of_two c = fit-no-power _ _ _ _ _ (counted (goal.at.returns-then-not-is_power_of_two c).Else-too_few) (sym c.is_power_of_two.ensures ∙ c.if-not-is_power_of_two.true)
 
 pub overflow_mul-count : goal.overflow_mul-count
 overflow_mul-count c = let l = count-in c.args.self c.args.gaps.now (counted (goal.at.overflow_mul-count c).Else-too_few) in omega arith

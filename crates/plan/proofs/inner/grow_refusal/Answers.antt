@@ -1,7 +1,7 @@
 use Prim.Native.Nat.{◌≤◌}
 use mathlib.Core.Path.{◌≡◌}
 use native.Mathlib.Omega.{arith}
-use lib.ListN.{length, length-map, length-take}
+use lib.ListN.{length, length-take}
 use borrow.Author.Tests.{not-true, not-false}
 use Rattle.plan_record.specs.Plan.{regions_of}
 use Rattle.plan.proofs.Growing.{grow-slot, grow-full, grow-capped, grow-passed}

@@ -1,7 +1,7 @@
 use Prim.Native.Nat.{◌≤◌}
 use mathlib.Core.Path.{◌≡◌, refl}
 use native.Mathlib.Omega.{arith}
-use lib.ListN.{length, length-map, length-take}
+use lib.ListN.{length, length-take}
 use Rattle.plan_record.specs.Plan.{regions_of}
 use Rattle.plan.proofs.Moving.{moving-begins, moving-turns, rotated-is}
 use Rattle.plan.proofs.inner.rotate.Goals as goal

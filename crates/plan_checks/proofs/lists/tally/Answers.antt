@@ -1,6 +1,5 @@
 -- `plan_checks::lists::tally` meets its contract: the first i records are within their limits, and their counts are summed.
 use native.Mathlib.Omega.{arith}
-use borrow.Author.Tests.{not-true, not-false}
 use Rattle.plan_checks.proofs.Tallying.{tally-begins, tally-over, tally-on, tally-ends}
 use Rattle.plan_checks.proofs.lists.tally.Goals as goal
 
@@ -14,7 +13,7 @@ pub bounds-records-i : goal.bounds-records-i
 bounds-records-i c = let g = c.loop-i.invariant in let h = c.loop-i-test.true in omega (arith, g.front.few)
 
 pub returns-then-not-within : goal.returns-then-not-within
-returns-then-not-within c = tally-over c.loop-i.invariant c.loop-i-test.true (c.within.ensures.fails (not-true _ c.if-not-within.true-raw))
+returns-then-not-within c = tally-over c.loop-i.invariant c.loop-i-test.true (c.within.ensures.fails c.if-not-within.true)
 
 pub overflow_add-listed : goal.overflow_add-listed
 overflow_add-listed c = let g = c.loop-i.invariant in let h = c.loop-i-test.true in omega (arith, g.front.few, g.listed-low, g.ranges-low)
@@ -30,7 +29,7 @@ overflow_add-i c = let g = c.loop-i.invariant in let h = c.loop-i-test.true in o
 
 pub loop-i-preserved : goal.loop-i-preserved
 loop-i-preserved c =
-    tally-on c.loop-i.invariant c.loop-i-test.true (c.within.ensures.holds (not-false _ c.if-not-within.false-raw)) (omega (arith, c.struct_known-1.given)) (omega (arith, c.struct_known-in-loop-i-1.given))
+    tally-on c.loop-i.invariant c.loop-i-test.true (c.within.ensures.holds c.if-not-within.false) (omega arith) (omega arith)
 
 pub returns : goal.returns
 returns c = tally-ends c.loop-i.invariant c.loop-i-test.false

@@ -1,7 +1,7 @@
 -- `plan_record::Plan::counted` meets its contract.
 use mathlib.Core.Path.{◌≡◌}
 use native.Mathlib.Omega.{arith}
-use lib.ListN.{length, length-map, length-take}
+use lib.ListN.{length, length-take}
 use Rattle.plan_record.proofs.Plan.counted.Goals as goal
 use Rattle.plan_record.proofs.Plan.counted.Goals.{Start}
 

@@ -3,7 +3,6 @@ use Prim.Native.Nat.{◌+◌, ◌*◌}
 use mathlib.Core.Path.{sym, ◌∙◌}
 use native.Mathlib.Omega.{arith}
 use lib.ListN.{get_or}
-use borrow.Author.Tests.{not-true, not-false}
 use Rattle.numbers.specs.Range.{range}
 use Rattle.runs.proofs.Joining.{joins_true, reach-begins, reach-in, reach-skips, reach-joins, reach-stops, reach-ends}
 use Rattle.numbers.proofs.Pairs.{pair-in}
@@ -64,18 +63,18 @@ pub bounds-extents-j-in-loop-j : goal.bounds-extents-j-in-loop-j
 bounds-extents-j-in-loop-j c = let h = reach-in c.loop-j.invariant c.loop-j-test.true in omega arith
 
 pub returns-then-not-follows : goal.returns-then-not-follows
-returns-then-not-follows c = reach-stops c.loop-j.invariant c.loop-j-test.true c.if-more-eq0.false (sym c.follows.ensures ∙ not-true _ c.if-not-follows.true-raw)
+returns-then-not-follows c = reach-stops c.loop-j.invariant c.loop-j-test.true c.if-more-eq0.false (sym c.follows.ensures ∙ c.if-not-follows.true)
 
 pub overflow_add-len-in-loop-j : goal.overflow_add-len-in-loop-j
 overflow_add-len-in-loop-j c = let x = range (get_or c.args.extents.now (2 * c.loop-j.j) 0) (get_or c.args.extents.now (2 * c.loop-j.j + 1) 0) in
-    let h = joins_true (range (get_or c.args.extents.now (2 * c.args.i) 0) c.loop-j.len) x (sym c.follows.ensures ∙ not-false _ c.if-not-follows.false-raw) in
+    let h = joins_true (range (get_or c.args.extents.now (2 * c.args.i) 0) c.loop-j.len) x (sym c.follows.ensures ∙ c.if-not-follows.false) in
     omega (arith, h.short)
 
 pub overflow_add-j-in-loop-j : goal.overflow_add-j-in-loop-j
 overflow_add-j-in-loop-j c = let h = reach-in c.loop-j.invariant c.loop-j-test.true in omega arith
 
 pub loop-j-preserved : goal.loop-j-preserved
-loop-j-preserved c = reach-joins c.loop-j.invariant c.loop-j-test.true c.if-more-eq0.false (sym c.follows.ensures ∙ not-false _ c.if-not-follows.false-raw)
+loop-j-preserved c = reach-joins c.loop-j.invariant c.loop-j-test.true c.if-more-eq0.false (sym c.follows.ensures ∙ c.if-not-follows.false)
 
 pub returns : goal.returns
 returns c = reach-ends c.loop-j.invariant c.loop-j-test.false
