@@ -1,49 +1,106 @@
 #!/usr/bin/env python3
-"""Respells this repository's own names as today's Rattle does: words in snake case.
+"""Respells this repository's own names as today's Rattle does: words in snake case, with no capital and no dash in a word.
 
-Run once, at the top, after port.py. It turns each camelCase word that begins with a small letter, in the proofs and
-definitions (.antt) and in the contracts and comments of the code (.rt). Types, modules and facts begin with a capital
-letter and stay; functions of src/ have no capitals. Names that would fall together with another are listed in APART.
+Run once, at the top, after port.py; a second run changes nothing. It turns the names of definitions, laws and fields of .antt files
+wherever they stand: in proofs and definitions, in the contracts and comments of the code (.rt) and in must-fail edits. Types, modules
+and facts begin with a capital letter and stay; so do the functions of src/, strings, the names that the check makes, and the library's.
 """
+import collections
 import glob
 import re
 import sys
 
-# A definition whose plain respelling is a field's or another name's, and what it is called in its place.
+# What the plain spelling would make of one name what another one is already: called otherwise.
 APART = {
     "nameLen": "name_length",
     "noRoom": "room_fails",
-    "oneMore": "one_extent_more",
     "rangesIn": "range_count",
 }
+# The same in one crate alone.
+APART_IN = {"crates/model/": {"oneMore": "one_extent_more"}}
+# Laws and fields that keep their dash: without it they would be the definition, the field or the function that they speak of.
+LEAVE = set(
+    "entry-tests header-tests extent-tests first-fit footprint-len open-refusal run-byte header-a header-b span-start span-end in-turn"
+    " with-tag len-at region-at has-row name-length last-at lists-fail order-part facts-part".split()
+)
 
-WORD = re.compile(r"(?<![A-Za-z0-9_'.\"])[a-z][A-Za-z0-9_']*[A-Z][A-Za-z0-9_']*|(?<=[.-])[a-z][A-Za-z0-9_']*[A-Z][A-Za-z0-9_']*")
+CAMEL = re.compile(r"(?<![A-Za-z0-9_'.\"])[a-z][A-Za-z0-9_']*[A-Z][A-Za-z0-9_']*|(?<=[.-])[a-z][A-Za-z0-9_']*[A-Z][A-Za-z0-9_']*")
+NAME = re.compile(r"[^\s(){}.;,@\"«»\[\]`]+")
+DECLARED = re.compile(r"^ *(?:pub |abbrev |unfoldable |record |data )*([a-z]\S*-\S+)(?: \{[^{}\n]*\})* :(?= |$)(.*)", re.M)
+IMPORTED = re.compile(r"^use (\S+?)\.\{([^}]*)\}", re.M)
+STRING = re.compile(r'("(?:[^"\\\n]|\\.)*")')
 
 
-def snake(word):
-    if word in APART:
-        return APART[word]
-    return re.sub(r"(?<=[a-z0-9])[A-Z]", lambda m: "_" + m.group(0).lower(), word)
+def files(*patterns):
+    return sorted(path for pattern in patterns for path in glob.glob(pattern, recursive=True))
 
 
-def respelled(text):
-    # strings keep their text
-    parts = re.split(r'("(?:[^"\\\n]|\\.)*")', text)
-    return "".join(p if p.startswith('"') else WORD.sub(lambda m: snake(m.group(0)), p) for p in parts)
+def read(path):
+    with open(path, encoding="utf-8") as f:
+        return f.read()
+
+
+def outside_strings(text, turn):
+    return "".join(part if part.startswith('"') else turn(part) for part in STRING.split(text))
+
+
+def without_capitals(path, text):
+    apart = dict(APART)
+    for place, names in APART_IN.items():
+        if path.startswith(place):
+            apart.update(names)
+    snake = lambda word: apart.get(word) or re.sub(r"(?<=[a-z0-9])[A-Z]", lambda m: "_" + m.group(0).lower(), word)
+    return outside_strings(text, lambda part: CAMEL.sub(lambda m: snake(m.group(0)), part))
+
+
+def dashed(texts):
+    """The names with a dash that these texts declare, but for those that the check or a library makes."""
+    found, others = set(), set(LEAVE)
+    for text in texts.values():
+        code = re.sub(r"--.*", "", text)
+        for m in IMPORTED.finditer(code):
+            if not m[1].startswith("Rattle.") or m[1].startswith("Rattle.std") or m[1].endswith(".Goals"):
+                others.update(name.split(" as ")[0].strip() for name in m[2].split(","))
+        for m in DECLARED.finditer(code):
+            (others if re.match(r" (goal|tie)\.", m[2]) else found).add(m[1])
+    return found - others
+
+
+# Behind these stand the names that the check makes: in answers the facts of a place, in invariants the variables of a loop.
+MADE = {"Answers": r"(?<![\w'-])(c|goal)\.\Z", "Proof": r"(?<![\w'-])(c|tie)\.\Z", "Invariants": r"(?<![\w'-])(l|goal)\.\Z"}
+
+
+def without_dashes(path, text, names):
+    of_function = re.search(r"/proofs/.+/(Answers|Proof|Invariants)\.antt$", path)
+
+    def turn(m):
+        before = text[max(0, m.start() - 5) : m.start()]
+        if m[0] not in names or of_function and re.search(MADE[of_function[1]], before):
+            return m[0]
+        return m[0].replace("-", "_")
+
+    return NAME.sub(turn, text)
 
 
 def main():
-    changed = 0
-    for pattern in ("crates/*/specs/**/*.antt", "crates/*/proofs/**/*.antt", "crates/*/src/**/*.rt"):
-        for path in glob.glob(pattern, recursive=True):
-            with open(path, encoding="utf-8") as f:
-                old = f.read()
-            new = respelled(old)
-            if new != old:
-                with open(path, "w", encoding="utf-8") as f:
-                    f.write(new)
-                changed += 1
-    print(f"respell: {changed} files")
+    changed = collections.Counter()
+
+    def write(path, old, new):
+        if new != old:
+            with open(path, "w", encoding="utf-8") as f:
+                f.write(new)
+            changed[path] += 1
+
+    sources = ("crates/*/specs/**/*.antt", "crates/*/proofs/**/*.antt", "crates/*/src/**/*.rt")
+    for path in files(*sources):
+        old = read(path)
+        write(path, old, without_capitals(path, old))
+    proofs = {path: read(path) for path in files(*sources[:2])}
+    names = dashed(proofs)
+    for path in files(*sources, "crates/*/must-fail/*.edit"):
+        old = read(path)
+        write(path, old, without_dashes(path, old, names))
+    print(f"respell: {len(names)} names with a dash, {len(changed)} files")
     return 0
 
 

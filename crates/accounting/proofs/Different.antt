@@ -14,10 +14,10 @@ use Rattle.accounting.specs.Table.{Table, InTagOrder, HasRow, accounts_of, on_ro
 use Rattle.accounting.specs.declared.Posted.{Posted}
 use Rattle.tagspace.specs.declared.TagSpace.{TagSpace}
 use Rattle.numbers.specs.Lists.{Any, any}
-use Rattle.accounting.proofs.Handing.{handed-fit, handed-full, on-row-order}
-use Rattle.accounting.proofs.Words.{rows_made, rows-kept, none-else, others-have, tag-has}
-use Rattle.numbers.proofs.Cases.{cases, by-lt, clash}
-use Rattle.numbers.proofs.Lists.{any-true, any-imp, of-any}
+use Rattle.accounting.proofs.Handing.{handed_fit, handed_full, on_row_order}
+use Rattle.accounting.proofs.Words.{rows_made, rows_kept, none_else, others_have, tag_has}
+use Rattle.numbers.proofs.Cases.{cases, by_lt, clash}
+use Rattle.numbers.proofs.Lists.{any_true, any_imp, of_any}
 
 -- The tags of usages that are not among those seen, each where it first comes up.
 unfoldable pub new_tags : List ℕ → List Usage → List ℕ
@@ -39,26 +39,26 @@ Once (n ∷ ns) = (In n ns → ⊥) × Once ns
 
 module _ (n : ℕ) (l : List ℕ) where
   seen_true : any (eqb n) l ≡ true → In n l
-  seen_true e = any-imp (λ (m : ℕ). eqb n m ≡ true) (λ (m : ℕ). n ≡ m) (λ m t. eqb-true n m t) l (any-true (eqb n) l e)
+  seen_true e = any_imp (λ (m : ℕ). eqb n m ≡ true) (λ (m : ℕ). n ≡ m) (λ m t. eqb-true n m t) l (any_true (eqb n) l e)
 
   seen_false : any (eqb n) l ≡ false → In n l → ⊥
   seen_false e i =
-      clash (of-any (eqb n) l (any-imp (λ (m : ℕ). n ≡ m) (λ (m : ℕ). eqb n m ≡ true) (λ m t. eq-eqb n m t) l i)) e
+      clash (of_any (eqb n) l (any_imp (λ (m : ℕ). n ≡ m) (λ (m : ℕ). eqb n m ≡ true) (λ m t. eq-eqb n m t) l i)) e
 
 module _ (seen : List ℕ) (u : Usage) (us : List Usage) where
-  tags-next : any (eqb u.tag) seen ≡ true → new_tags seen (u ∷ us) ≡ new_tags seen us
+  tags_next : any (eqb u.tag) seen ≡ true → new_tags seen (u ∷ us) ≡ new_tags seen us
   unfolding new_tags
-  tags-next e = simp e
+  tags_next e = simp e
 
-  tags-new : any (eqb u.tag) seen ≡ false → new_tags seen (u ∷ us) ≡ u.tag ∷ new_tags (u.tag ∷ seen) us
+  tags_new : any (eqb u.tag) seen ≡ false → new_tags seen (u ∷ us) ≡ u.tag ∷ new_tags (u.tag ∷ seen) us
   unfolding new_tags
-  tags-new e = simp e
+  tags_new e = simp e
 
   -- by whether the first one's tag was seen
-  tags-cases : (P : List ℕ → Type 0) → (In u.tag seen → P (new_tags seen us)) → ((In u.tag seen → ⊥) → P (u.tag ∷ new_tags (u.tag ∷ seen) us)) → P (new_tags seen (u ∷ us))
-  tags-cases P f g =
-      cases (any (eqb u.tag) seen) (λ e. subst P (sym (tags-next e)) (f (seen_true u.tag seen e)))
-      (λ e. subst P (sym (tags-new e)) (g (seen_false u.tag seen e)))
+  tags_cases : (P : List ℕ → Type 0) → (In u.tag seen → P (new_tags seen us)) → ((In u.tag seen → ⊥) → P (u.tag ∷ new_tags (u.tag ∷ seen) us)) → P (new_tags seen (u ∷ us))
+  tags_cases P f g =
+      cases (any (eqb u.tag) seen) (λ e. subst P (sym (tags_next e)) (f (seen_true u.tag seen e)))
+      (λ e. subst P (sym (tags_new e)) (g (seen_false u.tag seen e)))
 
 -- ---- they are the tags of the usages, each once
 
@@ -67,37 +67,37 @@ module _ (n : ℕ) where
   unfolding new_tags
   tag_of seen [] i = absurd i
   tag_of seen (u ∷ us) i =
-      tags-cases seen u us (λ (l : List ℕ). In n l → Any (λ (u : Usage). u.tag ≡ n) (u ∷ us) × (In n seen → ⊥))
+      tags_cases seen u us (λ (l : List ℕ). In n l → Any (λ (u : Usage). u.tag ≡ n) (u ∷ us) × (In n seen → ⊥))
       (λ s i. let r = tag_of seen us i in (inr r.0, r.1))
       (λ s i.
       ⊎_elim (λ e. (inl (sym e), λ j. s (subst (λ (m : ℕ). In m seen) e j)))
       (λ i. let r = tag_of (u.tag ∷ seen) us i in (inr r.0, λ j. r.1 (inr j))) i)
       i
 
-  tag-has-new : (seen : List ℕ) (us : List Usage) → Any (λ (u : Usage). u.tag ≡ n) us → In n seen ⊎ In n (new_tags seen us)
-  tag-has-new seen [] a = absurd a
-  tag-has-new seen (u ∷ us) a =
-      tags-cases seen u us (λ (l : List ℕ). In n seen ⊎ In n l)
-      (λ s. ⊎_elim (λ e. inl (subst (λ (m : ℕ). In m seen) e s)) (λ b. tag-has-new seen us b) a)
+  tag_has_new : (seen : List ℕ) (us : List Usage) → Any (λ (u : Usage). u.tag ≡ n) us → In n seen ⊎ In n (new_tags seen us)
+  tag_has_new seen [] a = absurd a
+  tag_has_new seen (u ∷ us) a =
+      tags_cases seen u us (λ (l : List ℕ). In n seen ⊎ In n l)
+      (λ s. ⊎_elim (λ e. inl (subst (λ (m : ℕ). In m seen) e s)) (λ b. tag_has_new seen us b) a)
       (λ s.
       ⊎_elim (λ e. inr (inl (sym e)))
-      (λ b. ⊎_elim (λ j. ⊎_elim (λ e. inr (inl e)) (λ k. inl k) j) (λ j. inr (inr j)) (tag-has-new (u.tag ∷ seen) us b)) a)
+      (λ b. ⊎_elim (λ j. ⊎_elim (λ e. inr (inl e)) (λ k. inl k) j) (λ j. inr (inr j)) (tag_has_new (u.tag ∷ seen) us b)) a)
 
-  pub tags-of : (us : List Usage) → In n (tags_in us) → Any (λ (u : Usage). u.tag ≡ n) us
-  tags-of us i = (tag_of [] us i).0
+  pub tags_of : (us : List Usage) → In n (tags_in us) → Any (λ (u : Usage). u.tag ≡ n) us
+  tags_of us i = (tag_of [] us i).0
 
-  pub tags-have : (us : List Usage) → Any (λ (u : Usage). u.tag ≡ n) us → In n (tags_in us)
-  tags-have us a = ⊎_elim (λ i. absurd i) (λ i. i) (tag-has-new [] us a)
+  pub tags_have : (us : List Usage) → Any (λ (u : Usage). u.tag ≡ n) us → In n (tags_in us)
+  tags_have us a = ⊎_elim (λ i. absurd i) (λ i. i) (tag_has_new [] us a)
 
-new-once : (seen : List ℕ) (us : List Usage) → Once (new_tags seen us)
+new_once : (seen : List ℕ) (us : List Usage) → Once (new_tags seen us)
 unfolding new_tags
-new-once seen [] = tt
-new-once seen (u ∷ us) =
-    tags-cases seen u us Once (λ s. new-once seen us)
-    (λ s. (λ i. (tag_of u.tag (u.tag ∷ seen) us i).1 (inl refl), new-once (u.tag ∷ seen) us))
+new_once seen [] = tt
+new_once seen (u ∷ us) =
+    tags_cases seen u us Once (λ s. new_once seen us)
+    (λ s. (λ i. (tag_of u.tag (u.tag ∷ seen) us i).1 (inl refl), new_once (u.tag ∷ seen) us))
 
-pub tags-once : (us : List Usage) → Once (tags_in us)
-tags-once us = new-once [] us
+pub tags_once : (us : List Usage) → Once (tags_in us)
+tags_once us = new_once [] us
 
 -- ---- as many rows
 
@@ -110,40 +110,40 @@ rows_new seen [] t o f g = omega arith
 rows_new seen (u ∷ us) t o f g =
     let rule : TagSpace → TagSpace = add_usage u.logical u.physical in
     let next : Table = on_row u.tag rule t in
-    let p = on-row-order u.tag rule t o in
-    let old : (n : ℕ) → HasRow n t.rows → HasRow n next.rows = others-have u.tag rule (λ r. refl) t in
-    let only : (n : ℕ) → HasRow n next.rows → (n ≡ u.tag) ⊎ HasRow n t.rows = none-else u.tag rule (λ r. refl) t in
-    tags-cases seen u us (λ (l : List ℕ). length (add_all us next).rows ≡ length t.rows + length l)
+    let p = on_row_order u.tag rule t o in
+    let old : (n : ℕ) → HasRow n t.rows → HasRow n next.rows = others_have u.tag rule (λ r. refl) t in
+    let only : (n : ℕ) → HasRow n next.rows → (n ≡ u.tag) ⊎ HasRow n t.rows = none_else u.tag rule (λ r. refl) t in
+    tags_cases seen u us (λ (l : List ℕ). length (add_all us next).rows ≡ length t.rows + length l)
     (λ s.
-    let m = rows-kept u.tag rule (λ r. refl) t o (f u.tag s) in
+    let m = rows_kept u.tag rule (λ r. refl) t o (f u.tag s) in
     let i = rows_new seen us next p (λ n j. old n (f n j)) (λ n h. ⊎_elim (λ e. subst (λ (k : ℕ). In k seen) (sym e) s) (g n) (only n h)) in
     omega (arith, m, i))
     (λ s.
     let m = rows_made u.tag rule (λ r. refl) t (λ h. s (g u.tag h)) in
     let i = rows_new (u.tag ∷ seen) us next p
-    (λ n j. ⊎_elim (λ e. subst (λ (k : ℕ). HasRow k next.rows) (sym e) (tag-has u.tag rule (λ r. refl) t)) (λ k. old n (f n k)) j)
+    (λ n j. ⊎_elim (λ e. subst (λ (k : ℕ). HasRow k next.rows) (sym e) (tag_has u.tag rule (λ r. refl) t)) (λ k. old n (f n k)) j)
     (λ n h. ⊎_elim (λ e. inl e) (λ k. inr (g n k)) (only n h)) in
     omega (arith, m, i))
 
-pub usage-rows : (us : List Usage) → length (add_all us no_tags).rows ≡ length (tags_in us)
-usage-rows us = rows_new [] us no_tags tt (λ n i. absurd i) (λ n h. h) ∙ omega arith
+pub usage_rows : (us : List Usage) → length (add_all us no_tags).rows ≡ length (tags_in us)
+usage_rows us = rows_new [] us no_tags tt (λ n i. absurd i) (λ n h. h) ∙ omega arith
 
 -- ---- 19 exactly where there are more than 96
 
 module _ (us : List Usage) where
-  pub few-tags : length (tags_in us) ≤ 96 → handed no_tags (add_all us no_tags) ≡ record { refusal = 0; accounts = accounts_of (add_all us no_tags) }
-  few-tags h = let e = usage-rows us in handed-fit no_tags (add_all us no_tags) (omega (arith, e, h))
+  pub few_tags : length (tags_in us) ≤ 96 → handed no_tags (add_all us no_tags) ≡ record { refusal = 0; accounts = accounts_of (add_all us no_tags) }
+  few_tags h = let e = usage_rows us in handed_fit no_tags (add_all us no_tags) (omega (arith, e, h))
 
-  pub many-tags : 96 < length (tags_in us) → handed no_tags (add_all us no_tags) ≡ record { refusal = 19; accounts = accounts_of no_tags }
-  many-tags h = let e = usage-rows us in handed-full no_tags (add_all us no_tags) (omega (arith, e, h))
+  pub many_tags : 96 < length (tags_in us) → handed no_tags (add_all us no_tags) ≡ record { refusal = 19; accounts = accounts_of no_tags }
+  many_tags h = let e = usage_rows us in handed_full no_tags (add_all us no_tags) (omega (arith, e, h))
 
 -- of `from_usage` and `from_entries`
 module _ {us : List Usage} {r : Posted} where
-  pub counts-many : Counts false us r → 96 < length (tags_in us) → r.refusal ≡ 19
-  counts-many c h = ap (λ (p : Posted). p.refusal) (c.answer ∙ many-tags us h)
+  pub counts_many : Counts false us r → 96 < length (tags_in us) → r.refusal ≡ 19
+  counts_many c h = ap (λ (p : Posted). p.refusal) (c.answer ∙ many_tags us h)
 
-  pub many-counts : (bad : Bool) → Counts bad us r → r.refusal ≡ 19 → (bad ≡ false) × (96 < length (tags_in us))
-  many-counts true c z = let e : ◌≡◌ {A = ℕ} 1 19 = sym (ap (λ (p : Posted). p.refusal) c.answer) ∙ z in absurd (omega (arith, e))
-  many-counts false c z =
-      by-lt 96 (length (tags_in us)) (λ l. (refl, l))
-      (λ l. let e : ◌≡◌ {A = ℕ} 0 19 = sym (ap (λ (p : Posted). p.refusal) (c.answer ∙ few-tags us l)) ∙ z in absurd (omega (arith, e)))
+  pub many_counts : (bad : Bool) → Counts bad us r → r.refusal ≡ 19 → (bad ≡ false) × (96 < length (tags_in us))
+  many_counts true c z = let e : ◌≡◌ {A = ℕ} 1 19 = sym (ap (λ (p : Posted). p.refusal) c.answer) ∙ z in absurd (omega (arith, e))
+  many_counts false c z =
+      by_lt 96 (length (tags_in us)) (λ l. (refl, l))
+      (λ l. let e : ◌≡◌ {A = ℕ} 0 19 = sym (ap (λ (p : Posted). p.refusal) (c.answer ∙ few_tags us l)) ∙ z in absurd (omega (arith, e)))

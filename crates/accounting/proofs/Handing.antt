@@ -17,29 +17,29 @@ use Rattle.accounting.specs.declared.posting.Posting.TheVariants.{AddUsage, Remo
 use Rattle.accounting.specs.declared.table.Spot.{Spot}
 use Rattle.tagspace.specs.Row.{blank, allows, fits}
 use Rattle.tagspace.specs.declared.TagSpace.{TagSpace}
-use Rattle.accounting.proofs.Shifting.{shifted-blanks}
-use Rattle.accounting.proofs.Tables.{accounts-valid, count-rows, all-rows, row-of-record}
-use Rattle.numbers.proofs.Cases.{by-lt, by-eq}
-use Rattle.numbers.proofs.Keyed.{keyed-known, put-known, keyed-unknown, put-unknown, put_order}
+use Rattle.accounting.proofs.Shifting.{shifted_blanks}
+use Rattle.accounting.proofs.Tables.{accounts_valid, count_rows, all_rows, row_of_record}
+use Rattle.numbers.proofs.Cases.{by_lt, by_eq}
+use Rattle.numbers.proofs.Keyed.{keyed_known, put_known, keyed_unknown, put_unknown, put_order}
 
 -- a rule that leaves the tag as it is
 abbrev pub KeepsTag : (TagSpace → TagSpace) → Type 0
 KeepsTag rule = (r : TagSpace) → (rule r).tag ≡ r.tag
 
 module _ (t next : Table) where
-  pub handed-fit : length next.rows ≤ 96 → handed t next ≡ record { refusal = 0; accounts = accounts_of next }
+  pub handed_fit : length next.rows ≤ 96 → handed t next ≡ record { refusal = 0; accounts = accounts_of next }
   unfolding handed
-  handed-fit h = simp (le-ltb 96 (length next.rows) h)
+  handed_fit h = simp (le-ltb 96 (length next.rows) h)
 
-  pub handed-full : 96 < length next.rows → handed t next ≡ record { refusal = 19; accounts = accounts_of t }
+  pub handed_full : 96 < length next.rows → handed t next ≡ record { refusal = 19; accounts = accounts_of t }
   unfolding handed
-  handed-full h = simp (lt-ltb 96 (length next.rows) h)
+  handed_full h = simp (lt-ltb 96 (length next.rows) h)
 
-  pub handed-valid : length t.rows ≤ 96 → InTagOrder t.rows → InTagOrder next.rows → Valid (handed t next).accounts
-  handed-valid h o p =
-      by-lt 96 (length next.rows)
-      (λ l. subst (λ (r : Posted). Valid r.accounts) (sym (handed-full l)) (accounts-valid t h o))
-      (λ l. subst (λ (r : Posted). Valid r.accounts) (sym (handed-fit l)) (accounts-valid next l p))
+  pub handed_valid : length t.rows ≤ 96 → InTagOrder t.rows → InTagOrder next.rows → Valid (handed t next).accounts
+  handed_valid h o p =
+      by_lt 96 (length next.rows)
+      (λ l. subst (λ (r : Posted). Valid r.accounts) (sym (handed_full l)) (accounts_valid t h o))
+      (λ l. subst (λ (r : Posted). Valid r.accounts) (sym (handed_fit l)) (accounts_valid next l p))
 
 -- the answer is all that is to be shown
 pub posts : (a : Accounting) (next : Table → Table) (r : Posted) → ((t : Table) → InTagOrder t.rows → InTagOrder (next t).rows) → (Valid a → r ≡ handed (table_of a) (next (table_of a))) → Posts a next r
@@ -49,12 +49,12 @@ posts a next r keeps e =
       valid =
           λ v.
           subst (λ (p : Posted). Valid p.accounts) (sym (e v))
-          (handed-valid (table_of a) (next (table_of a)) (let c = count-rows a v in omega (arith, c, v.few)) v.order (keeps (table_of a) v.order));
+          (handed_valid (table_of a) (next (table_of a)) (let c = count_rows a v in omega (arith, c, v.few)) v.order (keeps (table_of a) v.order));
     }
 
-pub on-row-order : (tag : ℕ) (rule : TagSpace → TagSpace) (t : Table) → InTagOrder t.rows → InTagOrder (on_row tag rule t).rows
+pub on_row_order : (tag : ℕ) (rule : TagSpace → TagSpace) (t : Table) → InTagOrder t.rows → InTagOrder (on_row tag rule t).rows
 unfolding on_row
-on-row-order tag rule t o = put_order tag_of (rule (row_of tag t.rows)) t.rows o
+on_row_order tag rule t o = put_order tag_of (rule (row_of tag t.rows)) t.rows o
 
 -- a record by its parts
 made_of : (rs : List TagSpace) (n m : ℕ) (t : Table) → rs ≡ t.rows ++ replicate (96 - length t.rows) (blank 0) → n ≡ length t.rows → m ≡ t.total → record { rows = rs; count = n; reserved = m } ≡ accounts_of t
@@ -63,116 +63,116 @@ made_of rs n m t p q s = rw (p, q, s)
 
 -- one row more, by how many there are
 module _ (k : ℕ) (x : TagSpace) (a : Accounting) where
-  pub inserted-many : 96 < a.count → inserted k x a ≡ record { refusal = 1; accounts = a }
+  pub inserted_many : 96 < a.count → inserted k x a ≡ record { refusal = 1; accounts = a }
   unfolding inserted
-  inserted-many h = simp (lt-ltb 96 a.count h)
+  inserted_many h = simp (lt-ltb 96 a.count h)
 
-  pub inserted-full : a.count ≡ 96 → inserted k x a ≡ record { refusal = 19; accounts = a }
+  pub inserted_full : a.count ≡ 96 → inserted k x a ≡ record { refusal = 19; accounts = a }
   unfolding inserted
-  inserted-full e = simp (le-ltb 96 a.count (omega arith), eq-eqb a.count 96 e)
+  inserted_full e = simp (le-ltb 96 a.count (omega arith), eq-eqb a.count 96 e)
 
-  pub inserted-room : a.count < 96 → inserted k x a ≡ record { refusal = 0; accounts = record { rows = shifted k a.count x a.rows; count = a.count + 1; reserved = a.reserved } }
+  pub inserted_room : a.count < 96 → inserted k x a ≡ record { refusal = 0; accounts = record { rows = shifted k a.count x a.rows; count = a.count + 1; reserved = a.reserved } }
   unfolding inserted
-  inserted-room h = simp (le-ltb 96 a.count (omega arith), ne_eqb a.count 96 (λ e. omega (arith, e, h)))
+  inserted_room h = simp (le-ltb 96 a.count (omega arith), ne_eqb a.count 96 (λ e. omega (arith, e, h)))
 
 module _ (a : Accounting) (v : Valid a) (tag : ℕ) (s : Spot) (f : Sought a tag s) where
   abbrev xs : List TagSpace
   xs = (table_of a).rows
 
-  reserved-total : a.reserved ≡ (table_of a).total
+  reserved_total : a.reserved ≡ (table_of a).total
   unfolding table_of
-  reserved-total = refl
+  reserved_total = refl
 
   place_in : s.at ≤ length xs
-  place_in = let c = count-rows a v in omega (arith, c, f.inside)
+  place_in = let c = count_rows a v in omega (arith, c, f.inside)
 
   -- the tag has a row
   module _ (z : s.known ≡ true) where
     in_rows : s.at < length xs
-    in_rows = let c = count-rows a v in let h = f.few z in omega (arith, c, h.1)
+    in_rows = let c = count_rows a v in let h = f.few z in omega (arith, c, h.1)
 
-    has-tag : (get_or xs s.at (blank 0)).tag ≡ tag
-    has-tag = subst (λ (r : TagSpace). r.tag ≡ tag) (row-of-record a v s.at) (f.own z)
+    has_tag : (get_or xs s.at (blank 0)).tag ≡ tag
+    has_tag = subst (λ (r : TagSpace). r.tag ≡ tag) (row_of_record a v s.at) (f.own z)
 
-    pub found-row : row_of tag xs ≡ get_or a.rows s.at (blank 0)
-    found-row = keyed-known tag_of xs v.order s.at tag (blank 0) in_rows has-tag (blank tag) ∙ sym (row-of-record a v s.at)
+    pub found_row : row_of tag xs ≡ get_or a.rows s.at (blank 0)
+    found_row = keyed_known tag_of xs v.order s.at tag (blank 0) in_rows has_tag (blank tag) ∙ sym (row_of_record a v s.at)
 
-    pub post-known : (rule : TagSpace → TagSpace) → KeepsTag rule → (x : TagSpace) → x ≡ rule (get_or a.rows s.at (blank 0)) → record { refusal = 0; accounts = record { rows = set a.rows s.at x; count = a.count; reserved = a.reserved } } ≡ handed (table_of a) (on_row tag rule (table_of a))
+    pub post_known : (rule : TagSpace → TagSpace) → KeepsTag rule → (x : TagSpace) → x ≡ rule (get_or a.rows s.at (blank 0)) → record { refusal = 0; accounts = record { rows = set a.rows s.at x; count = a.count; reserved = a.reserved } } ≡ handed (table_of a) (on_row tag rule (table_of a))
     unfolding on_row
-    post-known rule keeps x q =
+    post_known rule keeps x q =
         let t : x.tag ≡ tag = ap (λ (r : TagSpace). r.tag) q ∙ keeps (get_or a.rows s.at (blank 0)) ∙ f.own z in
-        let p : put (rule (row_of tag xs)) xs ≡ set xs s.at x = ap (λ (r : TagSpace). put (rule r) xs) found-row ∙ ap (λ (r : TagSpace). put r xs) (sym q) ∙ put-known tag_of xs v.order s.at tag (blank 0) in_rows has-tag x t in
+        let p : put (rule (row_of tag xs)) xs ≡ set xs s.at x = ap (λ (r : TagSpace). put (rule r) xs) found_row ∙ ap (λ (r : TagSpace). put r xs) (sym q) ∙ put_known tag_of xs v.order s.at tag (blank 0) in_rows has_tag x t in
         let n : length (put (rule (row_of tag xs)) xs) ≡ length xs = ap length p ∙ length-set xs s.at x in
-        let c = count-rows a v in
+        let c = count_rows a v in
         ap (λ (b : Accounting). record { refusal = 0; accounts = b })
         (made_of (set a.rows s.at x) a.count a.reserved (on_row tag rule (table_of a))
-        (ap (λ (l : List TagSpace). set l s.at x) (all-rows a v) ∙ set-append_left xs (replicate (96 - length xs) (blank 0)) s.at x in_rows ∙ rw (n, p))
-        (c ∙ sym n) reserved-total)
-        ∙ sym (handed-fit (table_of a) (on_row tag rule (table_of a)) (omega (arith, n, c, v.few)))
+        (ap (λ (l : List TagSpace). set l s.at x) (all_rows a v) ∙ set-append_left xs (replicate (96 - length xs) (blank 0)) s.at x in_rows ∙ rw (n, p))
+        (c ∙ sym n) reserved_total)
+        ∙ sym (handed_fit (table_of a) (on_row tag rule (table_of a)) (omega (arith, n, c, v.few)))
 
     -- and is only asked for
-    pub asked-known : record { refusal = 0; accounts = a } ≡ handed (table_of a) (on_row tag same (table_of a))
-    asked-known = ap (λ (l : List TagSpace). record { refusal = 0; accounts = record { rows = l; count = a.count; reserved = a.reserved } }) (sym (set-get_or a.rows s.at (blank 0))) ∙ post-known same (λ r. refl) (get_or a.rows s.at (blank 0)) refl
+    pub asked_known : record { refusal = 0; accounts = a } ≡ handed (table_of a) (on_row tag same (table_of a))
+    asked_known = ap (λ (l : List TagSpace). record { refusal = 0; accounts = record { rows = l; count = a.count; reserved = a.reserved } }) (sym (set-get_or a.rows s.at (blank 0))) ∙ post_known same (λ r. refl) (get_or a.rows s.at (blank 0)) refl
 
   -- it has none
   module _ (z : s.known ≡ false) where
     pub no_row : row_of tag xs ≡ blank tag
-    no_row = keyed-unknown tag_of xs s.at tag (f.lower z v) (f.higher z v) (blank tag)
+    no_row = keyed_unknown tag_of xs s.at tag (f.lower z v) (f.higher z v) (blank tag)
 
     module _ (rule : TagSpace → TagSpace) (keeps : KeepsTag rule) (x : TagSpace) (q : x ≡ rule (blank tag)) where
-      put-new : put (rule (row_of tag xs)) xs ≡ take s.at xs ++ (x ∷ drop s.at xs)
-      put-new =
+      put_new : put (rule (row_of tag xs)) xs ≡ take s.at xs ++ (x ∷ drop s.at xs)
+      put_new =
           ap (λ (r : TagSpace). put (rule r) xs) no_row
           ∙ ap (λ (r : TagSpace). put r xs) (sym q)
-          ∙ put-unknown tag_of xs s.at tag (f.lower z v) (f.higher z v) x (ap (λ (r : TagSpace). r.tag) q ∙ keeps (blank tag))
+          ∙ put_unknown tag_of xs s.at tag (f.lower z v) (f.higher z v) x (ap (λ (r : TagSpace). r.tag) q ∙ keeps (blank tag))
 
       one_more : length (put (rule (row_of tag xs)) xs) ≡ suc (length xs)
-      one_more = ap length put-new ∙ simp (length-append, length-take, length-drop) (omega (arith, place_in))
+      one_more = ap length put_new ∙ simp (length-append, length-take, length-drop) (omega (arith, place_in))
 
       -- a 97th tag
-      post-full : a.count ≡ 96 → record { refusal = 19; accounts = a } ≡ handed (table_of a) (on_row tag rule (table_of a))
+      post_full : a.count ≡ 96 → record { refusal = 19; accounts = a } ≡ handed (table_of a) (on_row tag rule (table_of a))
       unfolding on_row
-      post-full h =
-          let c = count-rows a v in
+      post_full h =
+          let c = count_rows a v in
           ap (λ (b : Accounting). record { refusal = 19; accounts = b }) v.record_of
-          ∙ sym (handed-full (table_of a) (on_row tag rule (table_of a)) (let n = one_more in omega (arith, n, c, h)))
+          ∙ sym (handed_full (table_of a) (on_row tag rule (table_of a)) (let n = one_more in omega (arith, n, c, h)))
 
-      post-new : a.count < 96 → record { refusal = 0; accounts = record { rows = shifted s.at a.count x a.rows; count = a.count + 1; reserved = a.reserved } } ≡ handed (table_of a) (on_row tag rule (table_of a))
+      post_new : a.count < 96 → record { refusal = 0; accounts = record { rows = shifted s.at a.count x a.rows; count = a.count + 1; reserved = a.reserved } } ≡ handed (table_of a) (on_row tag rule (table_of a))
       unfolding on_row
-      post-new h =
-          let c = count-rows a v in
+      post_new h =
+          let c = count_rows a v in
           let n = one_more in
           let m : 96 - length xs ≡ suc (96 - suc (length xs)) = omega (arith, c, h) in
           ap (λ (b : Accounting). record { refusal = 0; accounts = b })
           (made_of (shifted s.at a.count x a.rows) (a.count + 1) a.reserved (on_row tag rule (table_of a))
           (ap (λ (i : ℕ). shifted s.at i x a.rows) c
-          ∙ ap (λ (l : List TagSpace). shifted s.at (length xs) x l) (all-rows a v ∙ ap (λ (i : ℕ). xs ++ replicate i (blank 0)) m)
-          ∙ shifted-blanks xs (blank 0) x s.at (96 - suc (length xs)) place_in
-          ∙ rw (n, put-new))
-          (omega (arith, c, n)) reserved-total)
-          ∙ sym (handed-fit (table_of a) (on_row tag rule (table_of a)) (omega (arith, n, c, h)))
+          ∙ ap (λ (l : List TagSpace). shifted s.at (length xs) x l) (all_rows a v ∙ ap (λ (i : ℕ). xs ++ replicate i (blank 0)) m)
+          ∙ shifted_blanks xs (blank 0) x s.at (96 - suc (length xs)) place_in
+          ∙ rw (n, put_new))
+          (omega (arith, c, n)) reserved_total)
+          ∙ sym (handed_fit (table_of a) (on_row tag rule (table_of a)) (omega (arith, n, c, h)))
 
-      pub post-unknown : inserted s.at x a ≡ handed (table_of a) (on_row tag rule (table_of a))
-      post-unknown =
-          by-eq a.count 96 (λ e. inserted-full s.at x a e ∙ post-full e)
-          (λ n. let h : a.count < 96 = omega (arith, v.few) in inserted-room s.at x a h ∙ post-new h)
+      pub post_unknown : inserted s.at x a ≡ handed (table_of a) (on_row tag rule (table_of a))
+      post_unknown =
+          by_eq a.count 96 (λ e. inserted_full s.at x a e ∙ post_full e)
+          (λ n. let h : a.count < 96 = omega (arith, v.few) in inserted_room s.at x a h ∙ post_new h)
 
-pub posted-keeps : (p : Posting) → KeepsTag (posted p)
+pub posted_keeps : (p : Posting) → KeepsTag (posted p)
 unfolding posted
-posted-keeps (AddUsage l p) r = refl
-posted-keeps (RemoveUsage l p) r = refl
-posted-keeps (Reserve b) r = refl
-posted-keeps (Unreserve b) r = refl
-posted-keeps (SetCap k) r = refl
+posted_keeps (AddUsage l p) r = refl
+posted_keeps (RemoveUsage l p) r = refl
+posted_keeps (Reserve b) r = refl
+posted_keeps (Unreserve b) r = refl
+posted_keeps (SetCap k) r = refl
 
 -- ---- what is promised of a posting, by what the search found
 
 module _ (a : Accounting) (tag : ℕ) (s : Spot) (f : Sought a tag s) (rule : TagSpace → TagSpace) (keeps : KeepsTag rule) (x : TagSpace) where
-  pub posts-known : s.known ≡ true → x ≡ rule (get_or a.rows s.at (blank 0)) → Posts a (on_row tag rule) (record { refusal = 0; accounts = record { rows = set a.rows s.at x; count = a.count; reserved = a.reserved } })
-  posts-known z q = posts a (on_row tag rule) _ (on-row-order tag rule) (λ v. post-known a v tag s f z rule keeps x q)
+  pub posts_known : s.known ≡ true → x ≡ rule (get_or a.rows s.at (blank 0)) → Posts a (on_row tag rule) (record { refusal = 0; accounts = record { rows = set a.rows s.at x; count = a.count; reserved = a.reserved } })
+  posts_known z q = posts a (on_row tag rule) _ (on_row_order tag rule) (λ v. post_known a v tag s f z rule keeps x q)
 
-  pub posts-unknown : s.known ≡ false → x ≡ rule (blank tag) → (p : Posted) → p ≡ inserted s.at x a → Posts a (on_row tag rule) p
-  posts-unknown z q p e = posts a (on_row tag rule) p (on-row-order tag rule) (λ v. e ∙ post-unknown a v tag s f z rule keeps x q)
+  pub posts_unknown : s.known ≡ false → x ≡ rule (blank tag) → (p : Posted) → p ≡ inserted s.at x a → Posts a (on_row tag rule) p
+  posts_unknown z q p e = posts a (on_row tag rule) p (on_row_order tag rule) (λ v. e ∙ post_unknown a v tag s f z rule keeps x q)
 
 -- ---- the total beside the rows
 
@@ -189,23 +189,23 @@ module _ (a : Accounting) (next : Table → Table) (total : Table → ℕ) (p : 
       posts a both p o
       (λ v.
       let e = g.answer v in
-      by-lt 96 (length (next (table_of a)).rows)
-      (λ l. e ∙ handed-full (table_of a) (next (table_of a)) l ∙ sym (handed-full (table_of a) (both (table_of a)) l))
-      (λ l. absurd (n (ap (λ (q : Posted). q.refusal) (e ∙ handed-fit (table_of a) (next (table_of a)) l)))))
+      by_lt 96 (length (next (table_of a)).rows)
+      (λ l. e ∙ handed_full (table_of a) (next (table_of a)) l ∙ sym (handed_full (table_of a) (both (table_of a)) l))
+      (λ l. absurd (n (ap (λ (q : Posted). q.refusal) (e ∙ handed_fit (table_of a) (next (table_of a)) l)))))
 
-  pub total-posted : ((t : Table) → InTagOrder t.rows → InTagOrder (next t).rows) → p.refusal ≡ 0 → (n : ℕ) → (Valid a → n ≡ total (table_of a)) → Posts a both (record { refusal = 0; accounts = record { rows = p.accounts.rows; count = p.accounts.count; reserved = n } })
-  total-posted o z n q =
+  pub total_posted : ((t : Table) → InTagOrder t.rows → InTagOrder (next t).rows) → p.refusal ≡ 0 → (n : ℕ) → (Valid a → n ≡ total (table_of a)) → Posts a both (record { refusal = 0; accounts = record { rows = p.accounts.rows; count = p.accounts.count; reserved = n } })
+  total_posted o z n q =
       posts a both _ o
       (λ v.
       let e = g.answer v in
-      by-lt 96 (length (next (table_of a)).rows)
-      (λ l. let w : ◌≡◌ {A = ℕ} 0 19 = sym z ∙ ap (λ (r : Posted). r.refusal) (e ∙ handed-full (table_of a) (next (table_of a)) l) in absurd (omega (arith, w)))
+      by_lt 96 (length (next (table_of a)).rows)
+      (λ l. let w : ◌≡◌ {A = ℕ} 0 19 = sym z ∙ ap (λ (r : Posted). r.refusal) (e ∙ handed_full (table_of a) (next (table_of a)) l) in absurd (omega (arith, w)))
       (λ l.
-      let s : p.accounts ≡ accounts_of (next (table_of a)) = ap (λ (r : Posted). r.accounts) (e ∙ handed-fit (table_of a) (next (table_of a)) l) in
+      let s : p.accounts ≡ accounts_of (next (table_of a)) = ap (λ (r : Posted). r.accounts) (e ∙ handed_fit (table_of a) (next (table_of a)) l) in
       ap (λ (b : Accounting). record { refusal = 0; accounts = record { rows = b.rows; count = b.count; reserved = n } }) s
       ∙ ap (λ (m : ℕ). record { refusal = 0; accounts = record { rows = (accounts_of (next (table_of a))).rows; count = (accounts_of (next (table_of a))).count; reserved = m } }) (q v)
       ∙ ap (λ (b : Accounting). record { refusal = 0; accounts = b }) (total_of (total (table_of a)) (next (table_of a)))
-      ∙ sym (handed-fit (table_of a) (both (table_of a)) l)))
+      ∙ sym (handed_fit (table_of a) (both (table_of a)) l)))
 
 -- ---- `fits`
 
@@ -214,14 +214,14 @@ module _ (a : Accounting) (tag extra : ℕ) (s : Spot) (f : Sought a tag s) wher
   asks p ok e q =
       record {
         answer = λ v. ap (λ (b : Bool). asked p b) (q v) ∙ ap (λ (b : Posted). asked b (fits extra (row_of tag (table_of a).rows))) (e v);
-        valid = (posts a (on_row tag same) p (on-row-order tag same) e).valid;
+        valid = (posts a (on_row tag same) p (on_row_order tag same) e).valid;
       }
 
-  pub asks-known : s.known ≡ true → (ok : Bool) → ok ≡ fits extra (get_or a.rows s.at (blank 0)) → Asks a tag extra (record { refusal = 0; fits = ok; accounts = a })
-  asks-known z ok q = asks (record { refusal = 0; accounts = a }) ok (λ v. asked-known a v tag s f z) (λ v. q ∙ ap (fits extra) (sym (found-row a v tag s f z)))
+  pub asks_known : s.known ≡ true → (ok : Bool) → ok ≡ fits extra (get_or a.rows s.at (blank 0)) → Asks a tag extra (record { refusal = 0; fits = ok; accounts = a })
+  asks_known z ok q = asks (record { refusal = 0; accounts = a }) ok (λ v. asked_known a v tag s f z) (λ v. q ∙ ap (fits extra) (sym (found_row a v tag s f z)))
 
-  pub asks-unknown : s.known ≡ false → (x : TagSpace) → x ≡ blank tag → (p : Posted) → p ≡ inserted s.at x a → Asks a tag extra (record { refusal = p.refusal; fits = eqb p.refusal 0; accounts = p.accounts })
+  pub asks_unknown : s.known ≡ false → (x : TagSpace) → x ≡ blank tag → (p : Posted) → p ≡ inserted s.at x a → Asks a tag extra (record { refusal = p.refusal; fits = eqb p.refusal 0; accounts = p.accounts })
   unfolding fits allows
-  asks-unknown z x q p e =
+  asks_unknown z x q p e =
       subst (λ (b : Bool). Asks a tag extra (record { refusal = p.refusal; fits = b; accounts = p.accounts })) (and-true (eqb p.refusal 0))
-      (asks p true (λ v. e ∙ post-unknown a v tag s f z same (λ r. refl) x q) (λ v. ap (fits extra) (sym (no_row a v tag s f z))))
+      (asks p true (λ v. e ∙ post_unknown a v tag s f z same (λ r. refl) x q) (λ v. ap (fits extra) (sym (no_row a v tag s f z))))

@@ -23,15 +23,15 @@ pub record Shifting (rs₀ : List TagSpace) (n i : ℕ) (rs : List TagSpace) : T
   pub room : n < length rs₀
   pub now : rs ≡ take (suc i) rs₀ ++ (take moved (drop i rs₀) ++ drop (suc n) rs₀)
 
-pub shift-begins : (rs₀ : List TagSpace) (n : ℕ) → n < length rs₀ → Shifting rs₀ n n rs₀
-shift-begins rs₀ n h = record { moved = 0; all = omega arith; room = h; now = sym (take-append-drop (suc n) rs₀) }
+pub shift_begins : (rs₀ : List TagSpace) (n : ℕ) → n < length rs₀ → Shifting rs₀ n n rs₀
+shift_begins rs₀ n h = record { moved = 0; all = omega arith; room = h; now = sym (take-append-drop (suc n) rs₀) }
 
 module _ {rs₀ rs : List TagSpace} {n i : ℕ} (g : Shifting rs₀ n i rs) where
   abbrev behind : List TagSpace
   behind = take g.moved (drop i rs₀) ++ drop (suc n) rs₀
 
-  pub shift-on : (j : ℕ) (d : TagSpace) → i ≡ suc j → Shifting rs₀ n j (set rs i (get_or rs j d))
-  shift-on j d e =
+  pub shift_on : (j : ℕ) (d : TagSpace) → i ≡ suc j → Shifting rs₀ n j (set rs i (get_or rs j d))
+  shift_on j d e =
       let h : i < length rs₀ = omega (arith, g.all, g.room) in
       let v : get_or rs j d ≡ get_or rs₀ j d = ap (λ (t : List TagSpace). get_or t j d) g.now ∙ get_or-append (take (suc i) rs₀) behind d j (rw (length-take-le (suc i) rs₀ h) (omega arith)) ∙ get_or-take (suc i) rs₀ j d (omega arith) in
       record {
@@ -46,18 +46,18 @@ module _ {rs₀ rs : List TagSpace} {n i : ℕ} (g : Shifting rs₀ n i rs) wher
             ∙ ap (λ (t : List TagSpace). take (suc j) rs₀ ++ (take (suc g.moved) t ++ drop (suc n) rs₀)) (sym (drop-cons rs₀ j d (omega arith)));
       }
 
-  pub shift-ends : (x : TagSpace) → set rs i x ≡ shifted i n x rs₀
+  pub shift_ends : (x : TagSpace) → set rs i x ≡ shifted i n x rs₀
   unfolding shifted
-  shift-ends x =
+  shift_ends x =
       let m : g.moved ≡ n - i = omega (arith, g.all) in
       ap (λ (t : List TagSpace). set t i x) g.now
       ∙ set_front rs₀ behind i x (omega (arith, g.all, g.room))
       ∙ ap (λ (k : ℕ). take i rs₀ ++ (x ∷ (take k (drop i rs₀) ++ drop (suc n) rs₀))) m
 
 -- of rows with blank ones behind them
-pub shifted-blanks : (xs : List TagSpace) (b x : TagSpace) (k m : ℕ) → k ≤ length xs → shifted k (length xs) x (xs ++ replicate (suc m) b) ≡ (take k xs ++ (x ∷ drop k xs)) ++ replicate m b
+pub shifted_blanks : (xs : List TagSpace) (b x : TagSpace) (k m : ℕ) → k ≤ length xs → shifted k (length xs) x (xs ++ replicate (suc m) b) ≡ (take k xs ++ (x ∷ drop k xs)) ++ replicate m b
 unfolding shifted
-shifted-blanks xs b x k m h =
+shifted_blanks xs b x k m h =
     let l : length (drop k xs) ≡ length xs - k = length-drop k xs in
     let d : drop k (xs ++ replicate (suc m) b) ≡ drop k xs ++ replicate (suc m) b = drop-append-le k xs (replicate (suc m) b) h in
     let n : suc (length xs) ≡ length xs + 1 = omega arith in
@@ -74,17 +74,17 @@ pub record Inserting (a₀ : Accounting) (k : ℕ) (a : Accounting) (i : ℕ) : 
   pub shift : Shifting a₀.rows a₀.count i a.rows
   pub reserved : a.reserved ≡ a₀.reserved
 
-pub insert-begins : (a : Accounting) (k : ℕ) → k ≤ a.count → a.count < length a.rows → Inserting a k a a.count
-insert-begins a k h l = record { from = h; shift = shift-begins a.rows a.count l; reserved = refl }
+pub insert_begins : (a : Accounting) (k : ℕ) → k ≤ a.count → a.count < length a.rows → Inserting a k a a.count
+insert_begins a k h l = record { from = h; shift = shift_begins a.rows a.count l; reserved = refl }
 
 module _ {a₀ : Accounting} {k : ℕ} {a : Accounting} {i : ℕ} (g : Inserting a₀ k a i) where
-  pub insert-in : i ≤ a₀.count
-  insert-in = omega (arith, g.shift.all)
+  pub insert_in : i ≤ a₀.count
+  insert_in = omega (arith, g.shift.all)
 
-  pub insert-on : (d : TagSpace) → k < i → Inserting a₀ k (record { rows = set a.rows i (get_or a.rows (i - 1) d); count = a.count; reserved = a.reserved }) (i - 1)
-  insert-on d h = record { from = omega arith; shift = shift-on g.shift (i - 1) d (omega arith); reserved = g.reserved }
+  pub insert_on : (d : TagSpace) → k < i → Inserting a₀ k (record { rows = set a.rows i (get_or a.rows (i - 1) d); count = a.count; reserved = a.reserved }) (i - 1)
+  insert_on d h = record { from = omega arith; shift = shift_on g.shift (i - 1) d (omega arith); reserved = g.reserved }
 
-  pub insert-ends : (x : TagSpace) → i ≤ k → set a.rows k x ≡ shifted k a₀.count x a₀.rows
-  insert-ends x h =
+  pub insert_ends : (x : TagSpace) → i ≤ k → set a.rows k x ≡ shifted k a₀.count x a₀.rows
+  insert_ends x h =
       let e : i ≡ k = omega (arith, h, g.from) in
-      subst (λ (j : ℕ). set a.rows j x ≡ shifted j a₀.count x a₀.rows) e (shift-ends g.shift x)
+      subst (λ (j : ℕ). set a.rows j x ≡ shifted j a₀.count x a₀.rows) e (shift_ends g.shift x)

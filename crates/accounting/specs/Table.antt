@@ -18,7 +18,7 @@ pub record Table : Type 0 where
 unfoldable pub accounts_of : Table → Accounting
 accounts_of t = record { rows = t.rows ++ replicate (96 - length t.rows) (blank 0); count = length t.rows; reserved = t.total }
 
--- The table of a record; `table-accounts` (proofs/Tables) says that it is the one that the record was made of.
+-- The table of a record; `table_accounts` (proofs/Tables) says that it is the one that the record was made of.
 unfoldable pub table_of : Accounting → Table
 table_of a = record { rows = take a.count a.rows; total = a.reserved }
 
@@ -40,7 +40,7 @@ pub record Valid (a : Accounting) : Type 0 where
 abbrev pub HasRow : ℕ → List TagSpace → Type 0
 HasRow tag rs = HasKey tag_of tag rs
 
--- The row of a tag, a blank one where it has none; `keyed-there` and `keyed-none` (proofs/Keyed of `numbers`) say so.
+-- The row of a tag, a blank one where it has none; `keyed_there` and `keyed_none` (proofs/Keyed of `numbers`) say so.
 abbrev pub row_of : ℕ → List TagSpace → TagSpace
 row_of tag rs = keyed tag_of (blank tag) tag rs
 
@@ -69,7 +69,7 @@ abbrev pub same : TagSpace → TagSpace
 same r = r
 
 -- What is handed back where a table t is to become `next`: 19 for the "97th tag", and a refused call "changes nothing".
--- `Refused-full`, `kept-known` and `kept-room` (proofs/Words) say when that is.
+-- `refused_full`, `kept_known` and `kept_room` (proofs/Words) say when that is.
 unfoldable pub handed : Table → Table → Posted
 handed t next =
     cond (ltb 96 (length next.rows)) (record { refusal = 19; accounts = accounts_of t })

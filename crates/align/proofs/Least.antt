@@ -8,7 +8,7 @@ use lib.Bits.{bit_and, and_mask}
 use lib.Pow.{pow_pos}
 use Rattle.align.specs.Align.{up_to}
 use Rattle.numbers.specs.Powers.{is_power}
-use Rattle.numbers.proofs.Powers.{power-true}
+use Rattle.numbers.proofs.Powers.{power_true}
 
 pub record Least (value align at : ℕ) : Type 0 where
   pub times : ℕ
@@ -35,12 +35,12 @@ up_least v a pos =
 -- a power of two is not 0, and its mask takes off the remainder
 module _ (w align : ℕ) (power : is_power w align ≡ true) where
   pub power_pos : 0 < align
-  power_pos = let p = power-true w align power in let h = pow_pos p.log in let e = p.is in omega arith
+  power_pos = let p = power_true w align power in let h = pow_pos p.log in let e = p.is in omega arith
 
   pub masked : (value : ℕ) → (value + (align - 1)) - bit_and (value + (align - 1)) (align - 1) ≡ up_to value align
   unfolding up_to
   masked value =
-      let p = power-true w align power in
+      let p = power_true w align power in
       let reach : ℕ = value + (align - 1) in
       let m : bit_and reach (align - 1) ≡ reach % align = rw p.is (and_mask _ p.log) in
       let d : reach / align * align + reach % align ≡ reach = div-add-mod' reach align in

@@ -23,8 +23,8 @@ pub record Turned {A B : Type 0} (f : A → B) (xs : List A) (i : ℕ) (ys : Lis
   pub front : take i ys ≡ take i (map f xs)
 
 module _ {A B : Type 0} (f : A → B) (xs : List A) where
-  pub turn-begins : (ys : List B) → length ys ≡ length xs → Turned f xs 0 ys
-  turn-begins ys e = record { long = e; front = refl }
+  pub turn_begins : (ys : List B) → length ys ≡ length xs → Turned f xs 0 ys
+  turn_begins ys e = record { long = e; front = refl }
 
   pub turn_on : (ys : List B) (i : ℕ) (d : A) (y : B) → y ≡ f (get_or xs i d) → i < length xs → Turned f xs i ys → Turned f xs (i + 1) (set ys i y)
   turn_on ys i d y e h g =
@@ -38,32 +38,32 @@ module _ {A B : Type 0} (f : A → B) (xs : List A) where
             ∙ sym (take-suc (map f xs) i (f d) (rw (length-map xs f) h)));
       }
 
-  pub turn-ends : (ys : List B) (i : ℕ) → length xs ≤ i → Turned f xs i ys → ys ≡ map f xs
-  turn-ends ys i h g =
+  pub turn_ends : (ys : List B) (i : ℕ) → length xs ≤ i → Turned f xs i ys → ys ≡ map f xs
+  turn_ends ys i h g =
       sym (take_all i ys (omega (arith, g.long))) ∙ g.front ∙ take_all i (map f xs) (rw (length-map xs f) h)
 
-pub empty-long : length (accounts_of no_tags).rows ≡ 96
+pub empty_long : length (accounts_of no_tags).rows ≡ 96
 unfolding accounts_of
-empty-long = length-replicate {A = TagSpace} 96 (blank 0)
+empty_long = length-replicate {A = TagSpace} 96 (blank 0)
 
 -- nothing is lost in flat numbers
-cap-again : (c : Cap) → cap_from (is_capped c) (limit_of c) ≡ c
-cap-again (Limit n) = refl
-cap-again Nothing = refl
+cap_again : (c : Cap) → cap_from (is_capped c) (limit_of c) ≡ c
+cap_again (Limit n) = refl
+cap_again Nothing = refl
 
-row-again : (r : TagSpace) → row_from (flat_row r) ≡ r
-row-again r = rw (cap-again r.cap)
+row_again : (r : TagSpace) → row_from (flat_row r) ≡ r
+row_again r = rw (cap_again r.cap)
 
-rows-again : (rs : List TagSpace) → map row_from (map flat_row rs) ≡ rs
-rows-again [] = refl
-rows-again (r ∷ rs) = rw (row-again r, rows-again rs)
+rows_again : (rs : List TagSpace) → map row_from (map flat_row rs) ≡ rs
+rows_again [] = refl
+rows_again (r ∷ rs) = rw (row_again r, rows_again rs)
 
-pub from-flat : (a : Accounting) → accounts_from (flat_accounts a) ≡ a
+pub from_flat : (a : Accounting) → accounts_from (flat_accounts a) ≡ a
 unfolding accounts_from flat_accounts
-from-flat a = rw (rows-again a.rows)
+from_flat a = rw (rows_again a.rows)
 
-pub kind-again : (k : RegionKind) → kind_of (kind_code k) ≡ k
+pub kind_again : (k : RegionKind) → kind_of (kind_code k) ≡ k
 unfolding kind_of kind_code
-kind-again Append = refl
-kind-again Page = refl
-kind-again Slot = refl
+kind_again Append = refl
+kind_again Page = refl
+kind_again Slot = refl

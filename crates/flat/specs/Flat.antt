@@ -51,6 +51,6 @@ flat_row r =
       cap = limit_of r.cap;
     }
 
--- `from-flat` (proofs/Turning) says that the accounts from these are the same again.
+-- `from_flat` (proofs/Turning) says that the accounts from these are the same again.
 unfoldable pub flat_accounts : Accounting → FlatAccounting
 flat_accounts a = record { rows = map flat_row a.rows; count = a.count; reserved = a.reserved }

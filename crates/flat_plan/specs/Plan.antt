@@ -72,7 +72,7 @@ flat_region r =
 abbrev pub flat_regions : List Region → List FlatRegion
 flat_regions rs = map flat_region rs
 
--- `from-flat` (proofs/Again) says that the plan from these is the same again.
+-- `from_flat` (proofs/Again) says that the plan from these is the same again.
 unfoldable pub flat_plan : Plan → FlatPlan
 flat_plan p =
     record {

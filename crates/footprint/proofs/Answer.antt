@@ -21,14 +21,14 @@ use Rattle.numbers.specs.Pairs.{pairs, flat}
 use Rattle.numbers.specs.Range.{Range, range, blank}
 use Rattle.numbers.specs.Refusals.{first, refuse, Answer, accepted, number_of, is_accepted, value_or}
 use Rattle.numbers.specs.Sums.{top}
-use Rattle.footprint.proofs.Overlap.{Solid, neighbours-decide, overlaps-sorted}
+use Rattle.footprint.proofs.Overlap.{Solid, neighbours_decide, overlaps_sorted}
 use Rattle.footprint.proofs.Passed.{Passed, Inside, all_pass}
-use Rattle.numbers.proofs.Answers.{answer-value, answer-number, number-told, accepts-told}
-use Rattle.numbers.proofs.Cases.{by-eq}
+use Rattle.numbers.proofs.Answers.{answer_value, answer_number, number_told, accepts_told}
+use Rattle.numbers.proofs.Cases.{by_eq}
 use Rattle.numbers.proofs.Lists.{all_both}
-use Rattle.numbers.proofs.Pairs.{length-flat, pair-at, pair-in}
-use Rattle.numbers.proofs.Refusals.{first_one, first-go, first-stop, first-parts, first-low, refuse-none, refuse-low, each-low}
-use Rattle.sort.proofs.Laws.{all-sorted, sorted-ascending, sorted-length}
+use Rattle.numbers.proofs.Pairs.{length_flat, pair_at, pair_in}
+use Rattle.numbers.proofs.Refusals.{first_one, first_go, first_stop, first_parts, first_low, refuse_none, refuse_low, each_low}
+use Rattle.sort.proofs.Laws.{all_sorted, sorted_ascending, sorted_length}
 
 module _ (lim : Limits) (id : ℕ) (e : Entry) (h : Header) (xs : List ℕ) (places : ℕ) where
   abbrev before : List ℕ
@@ -37,35 +37,35 @@ module _ (lim : Limits) (id : ℕ) (e : Entry) (h : Header) (xs : List ℕ) (pla
   -- a refusal before the last is the refusal, and is not 13
   pub early : (before_last lim id e h xs places ≡ 0 → ⊥) → refusal_of lim id e h xs places ≡ before_last lim id e h xs places
   unfolding refusal_of before_last
-  early d = first-stop before _ d
+  early d = first_stop before _ d
 
   pub late : before_last lim id e h xs places ≡ 0 → refusal_of lim id e h xs places ≡ refuse 13 (overlaps (ranges lim e xs))
   unfolding refusal_of before_last
-  late z = first-go before (overlap_tests (ranges lim e xs)) z ∙ first_one (refuse 13 (overlaps (ranges lim e xs)))
+  late z = first_go before (overlap_tests (ranges lim e xs)) z ∙ first_one (refuse 13 (overlaps (ranges lim e xs)))
 
   pub not_last : before_last lim id e h xs places < 13
   unfolding before_last
   not_last =
-      first-low 13 before (omega arith)
-      (refuse-low 13 1 _ (omega arith), (refuse-low 13 2 _ (omega arith), (refuse-low 13 4 _ (omega arith), (refuse-low 13 5 _ (omega arith), (refuse-low 13 6 _ (omega arith), (refuse-low 13 7 _ (omega arith), (refuse-low 13 8 _ (omega arith), (refuse-low 13 9 _ (omega arith), (refuse-low 13 10 _ (omega arith), (each-low (outside lim e) 0 (committed e xs), (refuse-low 13 12 _ (omega arith), tt)))))))))))
+      first_low 13 before (omega arith)
+      (refuse_low 13 1 _ (omega arith), (refuse_low 13 2 _ (omega arith), (refuse_low 13 4 _ (omega arith), (refuse_low 13 5 _ (omega arith), (refuse_low 13 6 _ (omega arith), (refuse_low 13 7 _ (omega arith), (refuse_low 13 8 _ (omega arith), (refuse_low 13 9 _ (omega arith), (refuse_low 13 10 _ (omega arith), (each_low (outside lim e) 0 (committed e xs), (refuse_low 13 12 _ (omega arith), tt)))))))))))
 
-  pub refusal-most : refusal_of lim id e h xs places ≤ 13
-  refusal-most =
-      by-eq (before_last lim id e h xs places) 0
-      (λ z. let k = refuse-low 14 13 (overlaps (ranges lim e xs)) (omega arith) in omega (arith, late z))
+  pub refusal_most : refusal_of lim id e h xs places ≤ 13
+  refusal_most =
+      by_eq (before_last lim id e h xs places) 0
+      (λ z. let k = refuse_low 14 13 (overlaps (ranges lim e xs)) (omega arith) in omega (arith, late z))
       (λ d. omega (arith, early d, not_last))
 
   -- of an accepted region no test failed
-  pub none-failed : refusal_of lim id e h xs places ≡ 0 → (first before ≡ 0) × (first (overlap_tests (ranges lim e xs)) ≡ 0)
+  pub none_failed : refusal_of lim id e h xs places ≡ 0 → (first before ≡ 0) × (first (overlap_tests (ranges lim e xs)) ≡ 0)
   unfolding refusal_of
-  none-failed z = first-parts before (overlap_tests (ranges lim e xs)) z
+  none_failed z = first_parts before (overlap_tests (ranges lim e xs)) z
 
-  pub accepted-passed : refusal_of lim id e h xs places ≡ 0 → Passed lim e h xs places
+  pub accepted_passed : refusal_of lim id e h xs places ≡ 0 → Passed lim e h xs places
   unfolding before_last
-  accepted-passed z = all_pass lim id e h xs places (none-failed z).0
+  accepted_passed z = all_pass lim id e h xs places (none_failed z).0
 
-  pub accepted-apart : refusal_of lim id e h xs places ≡ 0 → overlaps (ranges lim e xs) ≡ false
-  accepted-apart z = refuse-none 13 (overlaps (ranges lim e xs)) (omega arith) (sym (first_one _) ∙ (none-failed z).1)
+  pub accepted_apart : refusal_of lim id e h xs places ≡ 0 → overlaps (ranges lim e xs) ≡ false
+  accepted_apart z = refuse_none 13 (overlaps (ranges lim e xs)) (omega arith) (sym (first_one _) ∙ (none_failed z).1)
 
 module _ {lim : Limits} {e : Entry} {h : Header} {xs : List ℕ} {places : ℕ} (p : Passed lim e h xs places) where
   -- what is laid out has bytes, and ends below 2^64
@@ -75,25 +75,25 @@ module _ {lim : Limits} {e : Entry} {h : Header} {xs : List ℕ} {places : ℕ} 
       let b = p.entry.b in
       let k = pow_pos lim.log2_block in (
         record { some = k; ends = omega (arith, a.upto) },
-        (record { some = k; ends = omega (arith, b.upto) }, committed-solid),
+        (record { some = k; ends = omega (arith, b.upto) }, committed_solid),
       )
     where
-      committed-solid : All Solid (committed e xs)
-      committed-solid = all_both (Inside lim e) (λ (x : Range). 0 < x.len) Solid (λ x i s. record { some = s; ends = i.ends }) (committed e xs) p.inside p.entry.some
+      committed_solid : All Solid (committed e xs)
+      committed_solid = all_both (Inside lim e) (λ (x : Range). 0 < x.len) Solid (λ x i s. record { some = s; ends = i.ends }) (committed e xs) p.inside p.entry.some
 
   -- the neighbours in the sorted footprint decide whether it overlaps itself
   pub decided : e.span_end ≤ top → neighbours_meet (footprint_of lim e xs) ≡ overlaps (ranges lim e xs)
   decided t =
-      neighbours-decide (footprint_of lim e xs) (sorted-ascending (ranges lim e xs)) (all-sorted Solid (ranges lim e xs) (solid t))
-      ∙ overlaps-sorted (ranges lim e xs)
+      neighbours_decide (footprint_of lim e xs) (sorted_ascending (ranges lim e xs)) (all_sorted Solid (ranges lim e xs) (solid t))
+      ∙ overlaps_sorted (ranges lim e xs)
 
   pub all_listed : e.extent_count ≤ length (pairs xs)
   all_listed = ⊎_elim (λ c. omega (arith, c, p.lists.listed)) (λ c. omega (arith, c, p.lists.listed)) p.count
 
-  pub footprint-length : length (flat (footprint_of lim e xs)) ≡ 2 * (e.extent_count + 2)
-  footprint-length =
-      let a = length-flat (footprint_of lim e xs) in
-      let b = sorted-length (ranges lim e xs) in
+  pub footprint_length : length (flat (footprint_of lim e xs)) ≡ 2 * (e.extent_count + 2)
+  footprint_length =
+      let a = length_flat (footprint_of lim e xs) in
+      let b = sorted_length (ranges lim e xs) in
       let c = length-take-le e.extent_count (pairs xs) all_listed in
       omega arith
 
@@ -101,25 +101,25 @@ module _ {lim : Limits} {e : Entry} {h : Header} {xs : List ℕ} {places : ℕ} 
   pub no_extra : h.extent_count ≤ e.extent_count → drop e.extent_count (pairs xs) ≡ []
   no_extra l = drop_of_length-le (pairs xs) {i = e.extent_count} (omega (arith, p.lists.listed))
 
-  pub extra-in : e.extent_count < h.extent_count → 2 * e.extent_count + 1 < length xs
-  extra-in l = pair-in xs e.extent_count (omega (arith, p.lists.listed))
+  pub extra_in : e.extent_count < h.extent_count → 2 * e.extent_count + 1 < length xs
+  extra_in l = pair_in xs e.extent_count (omega (arith, p.lists.listed))
 
-  pub one-extra : e.extent_count < h.extent_count → drop e.extent_count (pairs xs) ≡ range (get_or xs (2 * e.extent_count) 0) (get_or xs (2 * e.extent_count + 1) 0) ∷ []
-  one-extra l =
+  pub one_extra : e.extent_count < h.extent_count → drop e.extent_count (pairs xs) ≡ range (get_or xs (2 * e.extent_count) 0) (get_or xs (2 * e.extent_count + 1) 0) ∷ []
+  one_extra l =
       let n = e.extent_count in
       let c : h.extent_count ≡ n + 1 = ⊎_elim (λ z. absurd (omega arith)) (λ z. z) p.count in
       let i = p.lists.listed in
-      drop-cons (pairs xs) n blank (omega arith) ∙ rw (pair-at xs n (extra-in l), drop_of_length-le (pairs xs) {i = suc n} (omega arith))
+      drop-cons (pairs xs) n blank (omega arith) ∙ rw (pair_at xs n (extra_in l), drop_of_length-le (pairs xs) {i = suc n} (omega arith))
 
 -- ---- the four answers
 
 module _ (lim : Limits) (id : ℕ) (e : Entry) (h : Header) (xs s : List ℕ) where
-  pub refused-early : {r : ℕ} → r ≡ before_last lim id e h xs (length s) → (r ≡ 0 → ⊥) → Filled lim id e h xs s s (answer_of (Refused r))
-  refused-early {r} b d =
+  pub refused_early : {r : ℕ} → r ≡ before_last lim id e h xs (length s) → (r ≡ 0 → ⊥) → Filled lim id e h xs s s (answer_of (Refused r))
+  refused_early {r} b d =
       let n : refusal_of lim id e h xs (length s) ≡ r = early lim id e h xs (length s) (λ z. d (b ∙ z)) ∙ sym b in
       let l = not_last lim id e h xs (length s) in
       let f : r ≡ 13 → ⊥ = λ z. absurd (omega arith) in
-      record { answer = sym (rw n (answer-number r _ d)); slots = simp (n, ne_eqb _ _ d, ne_eqb _ _ f) }
+      record { answer = sym (rw n (answer_number r _ d)); slots = simp (n, ne_eqb _ _ d, ne_eqb _ _ f) }
 
   module _ {r : ℕ} (b : r ≡ before_last lim id e h xs (length s)) (z : r ≡ 0) (t : e.span_end ≤ top) {m : Bool} {ys : List ℕ} (o : LaidOut lim e xs ys m) where
     pub passed : Passed lim e h xs (length s)
@@ -130,15 +130,15 @@ module _ (lim : Limits) (id : ℕ) (e : Entry) (h : Header) (xs s : List ℕ) wh
 
     kept : ys ++ drop (2 * e.extent_count + 4 - 0) s ≡ written (flat (footprint_of lim e xs)) s
     kept =
-        let l = footprint-length passed in
+        let l = footprint_length passed in
         let k : 2 * e.extent_count + 4 - 0 ≡ length (flat (footprint_of lim e xs)) = omega arith in
         rw (o.slots, k)
 
-    pub refused-last : m ≡ true → Filled lim id e h xs s (ys ++ drop (2 * e.extent_count + 4 - 0) s) (answer_of (Refused 13))
+    pub refused_last : m ≡ true → Filled lim id e h xs s (ys ++ drop (2 * e.extent_count + 4 - 0) s) (answer_of (Refused 13))
     unfolding refuse
-    refused-last w =
+    refused_last w =
         let n : refusal_of lim id e h xs (length s) ≡ 13 = number ∙ ap (refuse 13) w in
-        record { answer = sym (rw n (answer-number 13 _ (λ z. omega arith))); slots = kept ∙ simp n }
+        record { answer = sym (rw n (answer_number 13 _ (λ z. omega arith))); slots = kept ∙ simp n }
 
     module _ (w : m ≡ false) where
       none : refusal_of lim id e h xs (length s) ≡ 0
@@ -146,36 +146,36 @@ module _ (lim : Limits) (id : ℕ) (e : Entry) (h : Header) (xs s : List ℕ) wh
       none = number ∙ ap (refuse 13) w
 
       pub usable : h.extent_count ≤ e.extent_count → Filled lim id e h xs s (ys ++ drop (2 * e.extent_count + 4 - 0) s) (answer_of Usable)
-      usable l = record { answer = sym (answer-value _ _ none ∙ ap accepted (no_extra passed l)); slots = kept ∙ simp none }
+      usable l = record { answer = sym (answer_value _ _ none ∙ ap accepted (no_extra passed l)); slots = kept ∙ simp none }
 
       pub ahead : e.extent_count < h.extent_count → Filled lim id e h xs s (ys ++ drop (2 * e.extent_count + 4 - 0) s) (answer_of (Ahead (get_or xs (2 * e.extent_count) 0) (get_or xs (2 * e.extent_count + 1) 0)))
-      ahead l = record { answer = sym (answer-value _ _ none ∙ ap accepted (one-extra passed l)); slots = kept ∙ simp none }
+      ahead l = record { answer = sym (answer_value _ _ none ∙ ap accepted (one_extra passed l)); slots = kept ∙ simp none }
 
 -- ---- the part that is handed back
 
 module _ (lim : Limits) (id : ℕ) (e : Entry) (h : Header) (xs s : List ℕ) where
   module _ {a : Answer (List Range)} {t : List ℕ} (f : Filled lim id e h xs s t a) {n : ℕ} {old extra : Range} {m : Bool} (g : Reported a n old extra m) where
     number_is : n ≡ refusal_of lim id e h xs (length s)
-    number_is = g.number ∙ ap number_of f.answer ∙ number-told _ _
+    number_is = g.number ∙ ap number_of f.answer ∙ number_told _ _
 
-    extra-told : extra ≡ get_or (value_or [] (check_of lim id e h xs (length s))) 0 old
-    extra-told = g.handed ∙ ap (λ (a : Answer (List Range)). get_or (value_or [] a) 0 old) f.answer
+    extra_told : extra ≡ get_or (value_or [] (check_of lim id e h xs (length s))) 0 old
+    extra_told = g.handed ∙ ap (λ (a : Answer (List Range)). get_or (value_or [] a) 0 old) f.answer
 
     told : m ≡ eqb (refusal_of lim id e h xs (length s)) 0
-    told = g.accepts ∙ ap is_accepted f.answer ∙ accepts-told _ _
+    told = g.accepts ∙ ap is_accepted f.answer ∙ accepts_told _ _
 
     pub room : m ≡ true → 2 * e.extent_count + 4 ≤ length s
-    room y = let p = (accepted-passed lim id e h xs (length s) (eqb-true _ _ (sym told ∙ y))).lists.room in omega arith
+    room y = let p = (accepted_passed lim id e h xs (length s) (eqb-true _ _ (sym told ∙ y))).lists.room in omega arith
 
     pub part : m ≡ true → Checked lim id e h xs s (take (2 * e.extent_count + 4 - 0) t) n old extra
     part y =
         let z = eqb-true _ _ (sym told ∙ y) in
-        let l = footprint-length (accepted-passed lim id e h xs (length s) z) in
+        let l = footprint_length (accepted_passed lim id e h xs (length s) z) in
         record {
           number = number_is;
           filled = rw (f.slots, z) (take_at (flat (footprint_of lim e xs)) (drop (length (flat (footprint_of lim e xs))) s) (2 * e.extent_count + 4 - 0) (omega arith));
-          handed = extra-told;
+          handed = extra_told;
         }
 
     pub no_part : m ≡ false → Checked lim id e h xs s (take (0 - 0) t) n old extra
-    no_part y = record { number = number_is; filled = simp (sym told ∙ y); handed = extra-told }
+    no_part y = record { number = number_is; filled = simp (sym told ∙ y); handed = extra_told }

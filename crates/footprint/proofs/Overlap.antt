@@ -16,10 +16,10 @@ use Rattle.numbers.specs.Range.{Range, end_of, Meet, meets, blank}
 use Rattle.numbers.specs.Sums.{top}
 use Rattle.sort.specs.Sort.{insert, sorted, Ascending}
 use Rattle.numbers.proofs.Cases.{cases, clash, or-false}
-use Rattle.numbers.proofs.Lists.{all-at, all-imp, any_at, any-true, any_false, of_none, or-exchange}
-use Rattle.numbers.proofs.Order.{in-offset}
-use Rattle.numbers.proofs.Ranges.{end-exact, apart, meets-true, meet-true, meets-false, meets-comm}
-use Rattle.sort.proofs.Laws.{test-insert, test-sorted}
+use Rattle.numbers.proofs.Lists.{all_at, all_imp, any_at, any_true, any_false, of_none, or_exchange}
+use Rattle.numbers.proofs.Order.{in_offset}
+use Rattle.numbers.proofs.Ranges.{end_exact, apart, meets_true, meet_true, meets_false, meets_comm}
+use Rattle.sort.proofs.Laws.{test_insert, test_sorted}
 
 -- two ranges of the list, at different places, that meet
 pub record TwoMeet (l : List Range) : Type 0 where
@@ -29,41 +29,41 @@ pub record TwoMeet (l : List Range) : Type 0 where
   pub inside : right < length l
   pub meet : Meet (get_or l left blank) (get_or l right blank)
 
-pub overlaps-true : (l : List Range) → overlaps l ≡ true → TwoMeet l
+pub overlaps_true : (l : List Range) → overlaps l ≡ true → TwoMeet l
 unfolding overlaps
-overlaps-true [] e = clash {b = false} e refl
-overlaps-true (r ∷ rs) e =
+overlaps_true [] e = clash {b = false} e refl
+overlaps_true (r ∷ rs) e =
     cases (any (meets r) rs)
     (λ t.
-    let m = any_at (λ (q : Range). meets r q ≡ true) rs blank (any-true (meets r) rs t) in
-    record { left = 0; right = suc m.0; order = omega arith; inside = omega (arith, m.1); meet = meets-true r (get_or rs m.0 blank) m.2 })
+    let m = any_at (λ (q : Range). meets r q ≡ true) rs blank (any_true (meets r) rs t) in
+    record { left = 0; right = suc m.0; order = omega arith; inside = omega (arith, m.1); meet = meets_true r (get_or rs m.0 blank) m.2 })
     (λ f.
-    let m = overlaps-true rs (sym (simp f) ∙ e) in
+    let m = overlaps_true rs (sym (simp f) ∙ e) in
     record { left = suc m.left; right = suc m.right; order = omega (arith, m.order); inside = omega (arith, m.inside); meet = m.meet })
 
 -- no two ranges of the list have a common byte
-pub overlaps-false : (l : List Range) → overlaps l ≡ false → (i j : ℕ) → i < j → j < length l → Meet (get_or l i blank) (get_or l j blank) → ⊥
+pub overlaps_false : (l : List Range) → overlaps l ≡ false → (i j : ℕ) → i < j → j < length l → Meet (get_or l i blank) (get_or l j blank) → ⊥
 unfolding overlaps
-overlaps-false [] e i j a b m = absurd (not-suc-le-zero b)
-overlaps-false (r ∷ rs) e i zero a b m = absurd (not-suc-le-zero a)
-overlaps-false (r ∷ rs) e zero (suc j) a b m =
-    meets-false r (get_or rs j blank) (all-at (λ (q : Range). meets r q ≡ false) rs j blank (any_false (meets r) rs (or-false (any (meets r) rs) (overlaps rs) e).0) (le_of_suc-le-suc b)) m
-overlaps-false (r ∷ rs) e (suc i) (suc j) a b m =
-    overlaps-false rs (or-false (any (meets r) rs) (overlaps rs) e).1 i j (le_of_suc-le-suc a) (le_of_suc-le-suc b) m
+overlaps_false [] e i j a b m = absurd (not-suc-le-zero b)
+overlaps_false (r ∷ rs) e i zero a b m = absurd (not-suc-le-zero a)
+overlaps_false (r ∷ rs) e zero (suc j) a b m =
+    meets_false r (get_or rs j blank) (all_at (λ (q : Range). meets r q ≡ false) rs j blank (any_false (meets r) rs (or-false (any (meets r) rs) (overlaps rs) e).0) (le_of_suc-le-suc b)) m
+overlaps_false (r ∷ rs) e (suc i) (suc j) a b m =
+    overlaps_false rs (or-false (any (meets r) rs) (overlaps rs) e).1 i j (le_of_suc-le-suc a) (le_of_suc-le-suc b) m
 
 -- ---- the sorted list overlaps itself as the list does
 
-overlaps-insert : (x : Range) (l : List Range) → overlaps (insert x l) ≡ (any (meets x) l || overlaps l)
+overlaps_insert : (x : Range) (l : List Range) → overlaps (insert x l) ≡ (any (meets x) l || overlaps l)
 unfolding overlaps any insert
-overlaps-insert x [] = refl
-overlaps-insert x (y ∷ ys) =
+overlaps_insert x [] = refl
+overlaps_insert x (y ∷ ys) =
     cases (precedes x y) (λ e. simp e)
-    (λ e. simp (e, test-insert (meets y) x ys, overlaps-insert x ys, meets-comm y x) (or-exchange (meets x y) (any (meets y) ys) (any (meets x) ys) (overlaps ys)))
+    (λ e. simp (e, test_insert (meets y) x ys, overlaps_insert x ys, meets_comm y x) (or_exchange (meets x y) (any (meets y) ys) (any (meets x) ys) (overlaps ys)))
 
-pub overlaps-sorted : (l : List Range) → overlaps (sorted l) ≡ overlaps l
+pub overlaps_sorted : (l : List Range) → overlaps (sorted l) ≡ overlaps l
 unfolding overlaps sorted
-overlaps-sorted [] = refl
-overlaps-sorted (x ∷ xs) = overlaps-insert x (sorted xs) ∙ rw (test-sorted (meets x) xs, overlaps-sorted xs)
+overlaps_sorted [] = refl
+overlaps_sorted (x ∷ xs) = overlaps_insert x (sorted xs) ∙ rw (test_sorted (meets x) xs, overlaps_sorted xs)
 
 -- ---- of a sorted list of ranges that have bytes and end below 2^64 the neighbours decide
 
@@ -75,31 +75,31 @@ pub record Solid (r : Range) : Type 0 where
 behind : (r q : Range) (l : List Range) → end_of r ≤ q.offset → All (InOrder q) l → any (meets r) (q ∷ l) ≡ false
 behind r q l h a =
     of_none (meets r) (q ∷ l)
-    (clear q h, all-imp (InOrder q) (λ (p : Range). meets r p ≡ false) (λ p o. let i = in-offset q p o in clear p (omega arith)) l a)
+    (clear q h, all_imp (InOrder q) (λ (p : Range). meets r p ≡ false) (λ p o. let i = in_offset q p o in clear p (omega arith)) l a)
   where
     clear : (p : Range) → end_of r ≤ p.offset → meets r p ≡ false
-    clear p g = cases (meets r p) (λ t. absurd (apart r p g (meets-true r p t))) (λ f. f)
+    clear p g = cases (meets r p) (λ t. absurd (apart r p g (meets_true r p t))) (λ f. f)
 
 touch : (r q : Range) → Solid r → Solid q → r.offset ≤ q.offset → q.offset - r.offset < r.len → meets r q ≡ true
 touch r q a b o h =
-    let e = end-exact r a.ends in
-    let f = end-exact q b.ends in
+    let e = end_exact r a.ends in
+    let f = end_exact q b.ends in
     let s = b.some in
-    meet-true r q (record {
+    meet_true r q (record {
       byte = q.offset;
       left = record { from = o; upto = omega arith };
       right = record { from = omega arith; upto = omega arith };
     })
 
-pub neighbours-decide : (l : List Range) → Ascending l → All Solid l → neighbours_meet l ≡ overlaps l
+pub neighbours_decide : (l : List Range) → Ascending l → All Solid l → neighbours_meet l ≡ overlaps l
 unfolding neighbours_meet overlaps any
-neighbours-decide [] a s = refl
-neighbours-decide (r ∷ []) a s = refl
-neighbours-decide (r ∷ q ∷ l) a s =
-    let o = in-offset r q a.0.0 in
+neighbours_decide [] a s = refl
+neighbours_decide (r ∷ []) a s = refl
+neighbours_decide (r ∷ q ∷ l) a s =
+    let o = in_offset r q a.0.0 in
     cases (ltb (q.offset - r.offset) r.len)
     (λ t. simp (t, touch r q s.0 s.1.0 o (ltb-true _ _ t)))
     (λ f.
     let g = ltb-false (q.offset - r.offset) r.len f in
-    let e = end-exact r s.0.ends in
-    simp (f, behind r q l (omega arith) a.1.0) (neighbours-decide (q ∷ l) a.1 s.1))
+    let e = end_exact r s.0.ends in
+    simp (f, behind r q l (omega arith) a.1.0) (neighbours_decide (q ∷ l) a.1 s.1))

@@ -21,25 +21,25 @@ use Rattle.numbers.specs.Range.{Range, total}
 use Rattle.numbers.specs.Refusals.{first}
 use Rattle.numbers.specs.Sums.{top}
 use Rattle.numbers.proofs.Cases.{and-true, or-true, or-false}
-use Rattle.numbers.proofs.Lists.{all-imp, any_false}
-use Rattle.numbers.proofs.Refusals.{first-none, first-parts, refuse-none, each-inside}
+use Rattle.numbers.proofs.Lists.{all_imp, any_false}
+use Rattle.numbers.proofs.Refusals.{first_none, first_parts, refuse_none, each_inside}
 
 -- 1: the lists have their lengths
 pub record Lists (lim : Limits) (e : Entry) (h : Header) (xs : List ℕ) (places : ℕ) : Type 0 where
   pub even : is_odd xs ≡ false
   pub listed : length (pairs xs) ≡ h.extent_count
   pub few : e.extent_count ≤ max_extents lim.log2_block
-  pub header-few : h.extent_count ≤ max_extents lim.log2_block
+  pub header_few : h.extent_count ≤ max_extents lim.log2_block
   pub room : 2 * (e.extent_count + 2) ≤ places
 
-pub lists-pass : (lim : Limits) (e : Entry) (h : Header) (xs : List ℕ) (places : ℕ) → lists_fail lim e h xs places ≡ false → Lists lim e h xs places
+pub lists_pass : (lim : Limits) (e : Entry) (h : Header) (xs : List ℕ) (places : ℕ) → lists_fail lim e h xs places ≡ false → Lists lim e h xs places
 unfolding lists_fail
-lists-pass lim e h xs places p =
+lists_pass lim e h xs places p =
     let a = or-false _ _ p in
     let b = or-false _ _ a.0 in
     let c = or-false _ _ b.0 in
     let d = or-false _ _ c.0 in
-    record { even = d.0; listed = eqb-true _ _ (not-false _ d.1); few = ltb-false _ _ c.1; header-few = ltb-false _ _ b.1; room = ltb-false _ _ a.1 }
+    record { even = d.0; listed = eqb-true _ _ (not-false _ d.1); few = ltb-false _ _ c.1; header_few = ltb-false _ _ b.1; room = ltb-false _ _ a.1 }
 
 -- 2: the block logs are allowed
 pub record Logs (lim : Limits) (h : Header) : Type 0 where
@@ -47,9 +47,9 @@ pub record Logs (lim : Limits) (h : Header) : Type 0 where
   pub high : lim.log2_block ≤ 16
   pub own : (h.log2_block ≡ 9) ⊎ (h.log2_block ≡ lim.log2_block)
 
-pub logs-pass : (lim : Limits) (h : Header) → logs_fail lim h ≡ false → Logs lim h
+pub logs_pass : (lim : Limits) (h : Header) → logs_fail lim h ≡ false → Logs lim h
 unfolding logs_fail
-logs-pass lim h p =
+logs_pass lim h p =
     let a = or-false _ _ p in
     let b = or-false _ _ a.0 in
     record {
@@ -58,8 +58,8 @@ logs-pass lim h p =
       own = ⊎_elim (λ t. inl (eqb-true _ _ t)) (λ t. inr (eqb-true _ _ t)) (or-true (eqb h.log2_block 9) (eqb h.log2_block lim.log2_block) (not-false _ a.1));
     }
 
-pub own-log : (lim : Limits) (h : Header) → Logs lim h → h.log2_block ≤ 16
-own-log lim h l = ⊎_elim (λ e. omega arith) (λ e. omega (arith, l.high)) l.own
+pub own_log : (lim : Limits) (h : Header) → Logs lim h → h.log2_block ≤ 16
+own_log lim h l = ⊎_elim (λ e. omega arith) (λ e. omega (arith, l.high)) l.own
 
 -- a header block is where it may be
 pub record Block (block : ℕ) (e : Entry) (at : ℕ) : Type 0 where
@@ -67,9 +67,9 @@ pub record Block (block : ℕ) (e : Entry) (at : ℕ) : Type 0 where
   pub from : e.span_start ≤ at
   pub upto : at + block ≤ e.span_end
 
-block-pass : (block : ℕ) (e : Entry) (at : ℕ) → block_fails block e at ≡ false → Block block e at
+block_pass : (block : ℕ) (e : Entry) (at : ℕ) → block_fails block e at ≡ false → Block block e at
 unfolding block_fails
-block-pass block e at p =
+block_pass block e at p =
     let a = or-false _ _ p in
     let b = or-false _ _ a.0 in
     record { aligned = eqb-true _ _ (not-false _ b.0); from = ltb-false _ _ b.1; upto = ltb-false _ _ a.1 }
@@ -84,9 +84,9 @@ pub record Entries (lim : Limits) (e : Entry) (xs : List ℕ) : Type 0 where
   pub size : e.data_size ≤ e.capacity
   pub some : All (λ (x : Range). 0 < x.len) (committed e xs)
 
-pub entry-pass : (lim : Limits) (e : Entry) (xs : List ℕ) → entry_fails lim e xs ≡ false → Entries lim e xs
+pub entry_pass : (lim : Limits) (e : Entry) (xs : List ℕ) → entry_fails lim e xs ≡ false → Entries lim e xs
 unfolding entry_fails span_fails
-entry-pass lim e xs p =
+entry_pass lim e xs p =
     let c = or-false _ _ p in
     let d = or-false _ _ c.0 in
     let n = or-false _ _ d.0 in
@@ -98,26 +98,26 @@ entry-pass lim e xs p =
       table = ltb-false _ _ t.0;
       order = ltb-false _ _ t.1;
       file = ltb-false _ _ u.1;
-      a = block-pass (block_of lim) e e.header_a a.1;
-      b = block-pass (block_of lim) e e.header_b b.1;
+      a = block_pass (block_of lim) e e.header_a a.1;
+      b = block_pass (block_of lim) e e.header_b b.1;
       size = ltb-false _ _ d.1;
-      some = all-imp (λ (x : Range). eqb x.len 0 ≡ false) (λ (x : Range). 0 < x.len) (λ x f. let d = eqb-false x.len 0 f in omega arith) (committed e xs) (any_false (λ (x : Range). eqb x.len 0) (committed e xs) c.1);
+      some = all_imp (λ (x : Range). eqb x.len 0 ≡ false) (λ (x : Range). 0 < x.len) (λ x f. let d = eqb-false x.len 0 f in omega arith) (committed e xs) (any_false (λ (x : Range). eqb x.len 0) (committed e xs) c.1);
     }
 
 -- the header lists the committed extents
-pub count-pass : (e : Entry) (h : Header) → count_fails e h ≡ false → (h.extent_count ≡ e.extent_count) ⊎ (h.extent_count ≡ e.extent_count + 1)
+pub count_pass : (e : Entry) (h : Header) → count_fails e h ≡ false → (h.extent_count ≡ e.extent_count) ⊎ (h.extent_count ≡ e.extent_count + 1)
 unfolding count_fails
-count-pass e h p =
+count_pass e h p =
     ⊎_elim (λ t. inl (eqb-true _ _ t)) (λ t. inr (eqb-true _ _ (and-true (not (eqb (kind_code e.kind) 3)) (eqb h.extent_count (e.extent_count + 1)) t).1)) (or-true _ _ (not-false _ p))
 
-pub header-count : (id : ℕ) (e : Entry) (h : Header) → first (header_tests id e h) ≡ 0 → (h.extent_count ≡ e.extent_count) ⊎ (h.extent_count ≡ e.extent_count + 1)
-header-count id e h p =
-    let t5 = first-none _ _ p in
-    let t6 = first-none _ _ t5.1 in
-    let t7 = first-none _ _ t6.1 in
-    let t8 = first-none _ _ t7.1 in
-    let t9 = first-none _ _ t8.1 in
-    count-pass e h (refuse-none 9 _ (omega arith) t9.0)
+pub header_count : (id : ℕ) (e : Entry) (h : Header) → first (header_tests id e h) ≡ 0 → (h.extent_count ≡ e.extent_count) ⊎ (h.extent_count ≡ e.extent_count + 1)
+header_count id e h p =
+    let t5 = first_none _ _ p in
+    let t6 = first_none _ _ t5.1 in
+    let t7 = first_none _ _ t6.1 in
+    let t8 = first_none _ _ t7.1 in
+    let t9 = first_none _ _ t8.1 in
+    count_pass e h (refuse_none 9 _ (omega arith) t9.0)
 
 -- an extent lies where it may
 pub record Inside (lim : Limits) (e : Entry) (x : Range) : Type 0 where
@@ -125,9 +125,9 @@ pub record Inside (lim : Limits) (e : Entry) (x : Range) : Type 0 where
   pub from : e.span_start ≤ x.offset
   pub upto : x.offset + x.len ≤ e.span_end
 
-inside-pass : (lim : Limits) (e : Entry) (x : Range) → outside lim e x ≡ false → Inside lim e x
+inside_pass : (lim : Limits) (e : Entry) (x : Range) → outside lim e x ≡ false → Inside lim e x
 unfolding outside
-inside-pass lim e x p =
+inside_pass lim e x p =
     let a = or-false _ _ p in
     let b = or-false _ _ a.0 in
     let c = or-false _ _ b.0 in
@@ -145,31 +145,31 @@ pub record Passed (lim : Limits) (e : Entry) (h : Header) (xs : List ℕ) (place
 pub all_pass : (lim : Limits) (id : ℕ) (e : Entry) (h : Header) (xs : List ℕ) (places : ℕ) → before_last lim id e h xs places ≡ 0 → Passed lim e h xs places
 unfolding before_last
 all_pass lim id e h xs places p =
-    let q = first-parts (entry_tests lim e h xs places ++ header_tests id e h) (extent_tests lim e (committed e xs)) p in
-    let r = first-parts (entry_tests lim e h xs places) (header_tests id e h) q.0 in
-    let t1 = first-none _ _ r.0 in
-    let t2 = first-none _ _ t1.1 in
-    let t4 = first-none _ _ t2.1 in
-    let t11 = first-none _ _ q.1 in
-    let t12 = first-none _ _ t11.1 in
+    let q = first_parts (entry_tests lim e h xs places ++ header_tests id e h) (extent_tests lim e (committed e xs)) p in
+    let r = first_parts (entry_tests lim e h xs places) (header_tests id e h) q.0 in
+    let t1 = first_none _ _ r.0 in
+    let t2 = first_none _ _ t1.1 in
+    let t4 = first_none _ _ t2.1 in
+    let t11 = first_none _ _ q.1 in
+    let t12 = first_none _ _ t11.1 in
     record {
-      lists = lists-pass lim e h xs places (refuse-none 1 _ (omega arith) t1.0);
-      logs = logs-pass lim h (refuse-none 2 _ (omega arith) t2.0);
-      entry = entry-pass lim e xs (refuse-none 4 _ (omega arith) t4.0);
-      count = header-count id e h r.1;
-      inside = all-imp (λ (x : Range). outside lim e x ≡ false) (Inside lim e) (inside-pass lim e) (committed e xs) (each-inside (outside lim e) 0 (committed e xs) t11.0);
-      capacity = eqb-true _ _ (not-false _ (refuse-none 12 _ (omega arith) t12.0));
+      lists = lists_pass lim e h xs places (refuse_none 1 _ (omega arith) t1.0);
+      logs = logs_pass lim h (refuse_none 2 _ (omega arith) t2.0);
+      entry = entry_pass lim e xs (refuse_none 4 _ (omega arith) t4.0);
+      count = header_count id e h r.1;
+      inside = all_imp (λ (x : Range). outside lim e x ≡ false) (Inside lim e) (inside_pass lim e) (committed e xs) (each_inside (outside lim e) 0 (committed e xs) t11.0);
+      capacity = eqb-true _ _ (not-false _ (refuse_none 12 _ (omega arith) t12.0));
     }
 
 -- kinds with the same number are the same
-pub kinds-tell : (k j : RegionKind) → kind_code k ≡ kind_code j → k ≡ j
+pub kinds_tell : (k j : RegionKind) → kind_code k ≡ kind_code j → k ≡ j
 unfolding kind_code
-kinds-tell Append Append e = refl
-kinds-tell Append Page e = absurd (omega arith)
-kinds-tell Append Slot e = absurd (omega arith)
-kinds-tell Page Append e = absurd (omega arith)
-kinds-tell Page Page e = refl
-kinds-tell Page Slot e = absurd (omega arith)
-kinds-tell Slot Append e = absurd (omega arith)
-kinds-tell Slot Page e = absurd (omega arith)
-kinds-tell Slot Slot e = refl
+kinds_tell Append Append e = refl
+kinds_tell Append Page e = absurd (omega arith)
+kinds_tell Append Slot e = absurd (omega arith)
+kinds_tell Page Append e = absurd (omega arith)
+kinds_tell Page Page e = refl
+kinds_tell Page Slot e = absurd (omega arith)
+kinds_tell Slot Append e = absurd (omega arith)
+kinds_tell Slot Page e = absurd (omega arith)
+kinds_tell Slot Slot e = refl

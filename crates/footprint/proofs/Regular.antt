@@ -18,14 +18,14 @@ use Rattle.numbers.specs.Lists.{All}
 use Rattle.numbers.specs.Range.{Range, range, Meet, meets, Disjoint, total}
 use Rattle.numbers.specs.Refusals.{first, refuse}
 use Rattle.numbers.specs.Sums.{top}
-use Rattle.footprint.proofs.Answer.{accepted-passed, accepted-apart, none-failed}
-use Rattle.footprint.proofs.Overlap.{overlaps-false}
-use Rattle.footprint.proofs.Passed.{Lists, Logs, Block, Entries, Inside, kinds-tell}
+use Rattle.footprint.proofs.Answer.{accepted_passed, accepted_apart, none_failed}
+use Rattle.footprint.proofs.Overlap.{overlaps_false}
+use Rattle.footprint.proofs.Passed.{Lists, Logs, Block, Entries, Inside, kinds_tell}
 use Rattle.numbers.proofs.Cases.{cases, never, and-true, or-true as one-true}
-use Rattle.numbers.proofs.Disjoint.{at-disjoint}
-use Rattle.numbers.proofs.Lists.{all-imp, of_none}
-use Rattle.numbers.proofs.Ranges.{end-exact, meets-true}
-use Rattle.numbers.proofs.Refusals.{NoneBelow, first-none, first-parts, first-go, none_first, pass-none, refuse-none, refuse-high, first-high, each-high, each_none}
+use Rattle.numbers.proofs.Disjoint.{at_disjoint}
+use Rattle.numbers.proofs.Lists.{all_imp, of_none}
+use Rattle.numbers.proofs.Ranges.{end_exact, meets_true}
+use Rattle.numbers.proofs.Refusals.{NoneBelow, first_none, first_parts, first_go, none_first, pass_none, refuse_none, refuse_high, first_high, each_high, each_none}
 
 -- 5 to 10: header and entry agree
 pub record Agreed (id : ℕ) (e : Entry) (h : Header) : Type 0 where
@@ -37,8 +37,8 @@ pub record Agreed (id : ℕ) (e : Entry) (h : Header) : Type 0 where
   pub multiple : e.data_size % 2 ^ h.log2_block ≡ 0
 
 -- a Slot region lists no extra
-pub slot-listed : (id : ℕ) (e : Entry) (h : Header) → Agreed id e h → e.kind ≡ Slot → h.extent_count ≡ e.extent_count
-slot-listed id e h g s = ⊎_elim (λ c. c) (λ c. absurd (c.0 s)) g.count
+pub slot_listed : (id : ℕ) (e : Entry) (h : Header) → Agreed id e h → e.kind ≡ Slot → h.extent_count ≡ e.extent_count
+slot_listed id e h g s = ⊎_elim (λ c. c) (λ c. absurd (c.0 s)) g.count
 
 -- what an accepted region has: its header blocks and committed extents, in data order, do not meet
 pub record Regular (lim : Limits) (id : ℕ) (e : Entry) (h : Header) (xs : List ℕ) (places : ℕ) : Type 0 where
@@ -52,148 +52,148 @@ pub record Regular (lim : Limits) (id : ℕ) (e : Entry) (h : Header) (xs : List
 
 -- ---- overlaps and Disjoint
 
-pub overlaps-disjoint : (rs : List Range) → overlaps rs ≡ false → Disjoint rs
-overlaps-disjoint rs f = at-disjoint rs (overlaps-false rs f)
+pub overlaps_disjoint : (rs : List Range) → overlaps rs ≡ false → Disjoint rs
+overlaps_disjoint rs f = at_disjoint rs (overlaps_false rs f)
 
-pub disjoint-overlaps : (rs : List Range) → Disjoint rs → overlaps rs ≡ false
+pub disjoint_overlaps : (rs : List Range) → Disjoint rs → overlaps rs ≡ false
 unfolding overlaps
-disjoint-overlaps [] d = refl
-disjoint-overlaps (r ∷ rs) d = simp (of_none (meets r) rs (all-imp (λ (q : Range). Meet r q → ⊥) (λ (q : Range). meets r q ≡ false) (λ q n. never (meets r q) (λ t. n (meets-true r q t))) rs d.0), disjoint-overlaps rs d.1)
+disjoint_overlaps [] d = refl
+disjoint_overlaps (r ∷ rs) d = simp (of_none (meets r) rs (all_imp (λ (q : Range). Meet r q → ⊥) (λ (q : Range). meets r q ≡ false) (λ q n. never (meets r q) (λ t. n (meets_true r q t))) rs d.0), disjoint_overlaps rs d.1)
 
 -- ---- from the refusal
 
-slot-code : (k : RegionKind) → k ≡ Slot → kind_code k ≡ 3
+slot_code : (k : RegionKind) → k ≡ Slot → kind_code k ≡ 3
 unfolding kind_code
-slot-code k e = rw e
+slot_code k e = rw e
 
 module _ (id : ℕ) (e : Entry) (h : Header) where
-  headers-agree : first (header_tests id e h) ≡ 0 → Agreed id e h
+  headers_agree : first (header_tests id e h) ≡ 0 → Agreed id e h
   unfolding count_fails
-  headers-agree z =
-      let t5 = first-none _ _ z in
-      let t6 = first-none _ _ t5.1 in
-      let t7 = first-none _ _ t6.1 in
-      let t8 = first-none _ _ t7.1 in
-      let t9 = first-none _ _ t8.1 in
-      let t10 = first-none _ _ t9.1 in
+  headers_agree z =
+      let t5 = first_none _ _ z in
+      let t6 = first_none _ _ t5.1 in
+      let t7 = first_none _ _ t6.1 in
+      let t8 = first_none _ _ t7.1 in
+      let t9 = first_none _ _ t8.1 in
+      let t10 = first_none _ _ t9.1 in
       record {
-        number = eqb-true _ _ (not-false _ (refuse-none 5 _ (omega arith) t5.0));
-        kind = kinds-tell h.kind e.kind (eqb-true _ _ (not-false _ (refuse-none 6 _ (omega arith) t6.0)));
-        flags = eqb-true _ _ (not-false _ (refuse-none 7 _ (omega arith) t7.0));
-        ready = not-false _ (refuse-none 8 _ (omega arith) t8.0);
+        number = eqb-true _ _ (not-false _ (refuse_none 5 _ (omega arith) t5.0));
+        kind = kinds_tell h.kind e.kind (eqb-true _ _ (not-false _ (refuse_none 6 _ (omega arith) t6.0)));
+        flags = eqb-true _ _ (not-false _ (refuse_none 7 _ (omega arith) t7.0));
+        ready = not-false _ (refuse_none 8 _ (omega arith) t8.0);
         count =
             ⊎_elim (λ t. inl (eqb-true _ _ t))
             (λ t.
             let a = and-true (not (eqb (kind_code e.kind) 3)) (eqb h.extent_count (e.extent_count + 1)) t in
-            inr (λ s. eqb-false (kind_code e.kind) 3 (not-true _ a.0) (slot-code e.kind s), eqb-true _ _ a.1))
-            (one-true _ _ (not-false _ (refuse-none 9 (count_fails e h) (omega arith) t9.0)));
-        multiple = eqb-true _ _ (not-false _ (refuse-none 10 _ (omega arith) t10.0));
+            inr (λ s. eqb-false (kind_code e.kind) 3 (not-true _ a.0) (slot_code e.kind s), eqb-true _ _ a.1))
+            (one-true _ _ (not-false _ (refuse_none 9 (count_fails e h) (omega arith) t9.0)));
+        multiple = eqb-true _ _ (not-false _ (refuse_none 10 _ (omega arith) t10.0));
       }
 
 module _ (lim : Limits) (id : ℕ) (e : Entry) (h : Header) (xs : List ℕ) (places : ℕ) where
-  pub accepted-regular : refusal_of lim id e h xs places ≡ 0 → Regular lim id e h xs places
-  accepted-regular z =
-      let p = accepted-passed lim id e h xs places z in
-      let q = first-parts (entry_tests lim e h xs places ++ header_tests id e h) (extent_tests lim e (committed e xs)) (none-failed lim id e h xs places z).0 in
+  pub accepted_regular : refusal_of lim id e h xs places ≡ 0 → Regular lim id e h xs places
+  accepted_regular z =
+      let p = accepted_passed lim id e h xs places z in
+      let q = first_parts (entry_tests lim e h xs places ++ header_tests id e h) (extent_tests lim e (committed e xs)) (none_failed lim id e h xs places z).0 in
       record {
         lists = p.lists;
         logs = p.logs;
         entry = p.entry;
-        agreed = headers-agree id e h (first-parts (entry_tests lim e h xs places) (header_tests id e h) q.0).1;
+        agreed = headers_agree id e h (first_parts (entry_tests lim e h xs places) (header_tests id e h) q.0).1;
         inside = p.inside;
         capacity = p.capacity;
-        disjoint = overlaps-disjoint (ranges lim e xs) (accepted-apart lim id e h xs places z);
+        disjoint = overlaps_disjoint (ranges lim e xs) (accepted_apart lim id e h xs places z);
       }
 
 -- ---- to the refusal: each test passes
 
 module _ (lim : Limits) (e : Entry) (h : Header) (xs : List ℕ) where
-  pub lists-fine : (places : ℕ) → Lists lim e h xs places → lists_fail lim e h xs places ≡ false
+  pub lists_fine : (places : ℕ) → Lists lim e h xs places → lists_fail lim e h xs places ≡ false
   unfolding lists_fail
-  lists-fine places l = simp (l.even, eq-eqb _ _ l.listed, le-ltb _ _ l.few, le-ltb _ _ l.header-few, le-ltb _ _ l.room)
+  lists_fine places l = simp (l.even, eq-eqb _ _ l.listed, le-ltb _ _ l.few, le-ltb _ _ l.header_few, le-ltb _ _ l.room)
 
-  pub logs-fine : Logs lim h → logs_fail lim h ≡ false
+  pub logs_fine : Logs lim h → logs_fail lim h ≡ false
   unfolding logs_fail
-  logs-fine l =
+  logs_fine l =
       ⊎_elim (λ (d : h.log2_block ≡ 9). simp (le-ltb _ _ l.low, le-ltb _ _ l.high, eq-eqb _ _ d))
       (λ (d : h.log2_block ≡ lim.log2_block). simp (le-ltb _ _ l.low, le-ltb _ _ l.high, eq-eqb _ _ d, or-true (eqb h.log2_block 9)))
       l.own
 
-block-fine : (block : ℕ) (e : Entry) (at : ℕ) → Block block e at → block_fails block e at ≡ false
+block_fine : (block : ℕ) (e : Entry) (at : ℕ) → Block block e at → block_fails block e at ≡ false
 unfolding block_fails
-block-fine block e at b = simp (eq-eqb _ _ b.aligned, le-ltb _ _ b.from, le-ltb _ _ b.upto)
+block_fine block e at b = simp (eq-eqb _ _ b.aligned, le-ltb _ _ b.from, le-ltb _ _ b.upto)
 
 -- blocks that do not meet are a block apart
-not-near : (block a b : ℕ) → 0 < block → a + block ≤ top → b + block ≤ top → (Meet (range a block) (range b block) → ⊥) → near block a b ≡ false
+not_near : (block a b : ℕ) → 0 < block → a + block ≤ top → b + block ≤ top → (Meet (range a block) (range b block) → ⊥) → near block a b ≡ false
 unfolding near
-not-near block a b p s t n =
+not_near block a b p s t n =
     never _
     (λ e.
     let c = and-true _ _ e in
     let l : b < a + block = ltb-true _ _ c.0 in
     let r : a < b + block = ltb-true _ _ c.1 in
-    let u = end-exact (range a block) s in
-    let v = end-exact (range b block) t in
+    let u = end_exact (range a block) s in
+    let v = end_exact (range b block) t in
     n (record { byte = max a b; left = record { from = omega arith; upto = omega arith }; right = record { from = omega arith; upto = omega arith } }))
 
 module _ (lim : Limits) (e : Entry) (xs : List ℕ) (small : lim.file_len ≤ top) where
-  entry-fine : Entries lim e xs → Disjoint (ranges lim e xs) → entry_fails lim e xs ≡ false
+  entry_fine : Entries lim e xs → Disjoint (ranges lim e xs) → entry_fails lim e xs ≡ false
   unfolding entry_fails span_fails
-  entry-fine t d =
+  entry_fine t d =
       let k = pow_pos lim.log2_block in
       simp (
         le-ltb _ _ t.table,
         le-ltb _ _ t.order,
         le-ltb _ _ t.file,
-        block-fine _ _ _ t.a,
-        block-fine _ _ _ t.b,
-        not-near (block_of lim) e.header_a e.header_b k (omega (arith, small, t.file, t.a.upto)) (omega (arith, small, t.file, t.b.upto)) d.0.0,
+        block_fine _ _ _ t.a,
+        block_fine _ _ _ t.b,
+        not_near (block_of lim) e.header_a e.header_b k (omega (arith, small, t.file, t.a.upto)) (omega (arith, small, t.file, t.b.upto)) d.0.0,
         le-ltb _ _ t.size,
-        of_none (λ (x : Range). eqb x.len 0) (committed e xs) (all-imp (λ (x : Range). 0 < x.len) (λ (x : Range). eqb x.len 0 ≡ false) (λ x s. ne_eqb x.len 0 (λ z. omega arith)) (committed e xs) t.some),
+        of_none (λ (x : Range). eqb x.len 0) (committed e xs) (all_imp (λ (x : Range). 0 < x.len) (λ (x : Range). eqb x.len 0 ≡ false) (λ x s. ne_eqb x.len 0 (λ z. omega arith)) (committed e xs) t.some),
       )
 
-  inside-fine : Entries lim e xs → (x : Range) → Inside lim e x → outside lim e x ≡ false
+  inside_fine : Entries lim e xs → (x : Range) → Inside lim e x → outside lim e x ≡ false
   unfolding outside
-  inside-fine t x i =
+  inside_fine t x i =
       simp (le-ltb _ _ i.ends, le-ltb _ _ i.upto, le-ltb _ _ i.from, le-ltb x.offset lim.table_end (omega (arith, t.table, i.from)))
 
-count-fine : (id : ℕ) (e : Entry) (h : Header) → Agreed id e h → count_fails e h ≡ false
+count_fine : (id : ℕ) (e : Entry) (h : Header) → Agreed id e h → count_fails e h ≡ false
 unfolding count_fails
-count-fine id e h g =
+count_fine id e h g =
     ⊎_elim (λ (c : h.extent_count ≡ e.extent_count). simp (eq-eqb _ _ c))
     (λ (c : (e.kind ≡ Slot → ⊥) × (h.extent_count ≡ e.extent_count + 1)).
-    simp (ne_eqb (kind_code e.kind) 3 (λ z. c.0 (kinds-tell e.kind Slot (z ∙ sym (slot-code Slot refl)))), eq-eqb _ _ c.1, or-true (eqb h.extent_count e.extent_count)))
+    simp (ne_eqb (kind_code e.kind) 3 (λ z. c.0 (kinds_tell e.kind Slot (z ∙ sym (slot_code Slot refl)))), eq-eqb _ _ c.1, or-true (eqb h.extent_count e.extent_count)))
     g.count
 
 module _ (lim : Limits) (id : ℕ) (e : Entry) (h : Header) (xs : List ℕ) (places : ℕ) where
   -- "file length" is a u64; so is the capacity
-  pub regular-accepted : lim.file_len ≤ top → e.capacity ≤ top → Regular lim id e h xs places → refusal_of lim id e h xs places ≡ 0
+  pub regular_accepted : lim.file_len ≤ top → e.capacity ≤ top → Regular lim id e h xs places → refusal_of lim id e h xs places ≡ 0
   unfolding refusal_of
-  regular-accepted small whole r =
+  regular_accepted small whole r =
       let g = r.agreed in
       none_first _ (
-        pass-none 1 _ (lists-fine lim e h xs places r.lists),
+        pass_none 1 _ (lists_fine lim e h xs places r.lists),
         (
-          pass-none 2 _ (logs-fine lim e h xs r.logs),
+          pass_none 2 _ (logs_fine lim e h xs r.logs),
           (
-            pass-none 4 _ (entry-fine lim e xs small r.entry r.disjoint),
+            pass_none 4 _ (entry_fine lim e xs small r.entry r.disjoint),
             (
-              pass-none 5 _ (ap not (eq-eqb _ _ g.number)),
+              pass_none 5 _ (ap not (eq-eqb _ _ g.number)),
               (
-                pass-none 6 _ (ap not (eq-eqb _ _ (ap kind_code g.kind))),
+                pass_none 6 _ (ap not (eq-eqb _ _ (ap kind_code g.kind))),
                 (
-                  pass-none 7 _ (ap not (eq-eqb _ _ g.flags)),
+                  pass_none 7 _ (ap not (eq-eqb _ _ g.flags)),
                   (
-                    pass-none 8 _ (ap not g.ready),
+                    pass_none 8 _ (ap not g.ready),
                     (
-                      pass-none 9 _ (count-fine id e h g),
+                      pass_none 9 _ (count_fine id e h g),
                       (
-                        pass-none 10 _ (ap not (eq-eqb _ _ g.multiple)),
+                        pass_none 10 _ (ap not (eq-eqb _ _ g.multiple)),
                         (
-                          each_none (outside lim e) 0 (committed e xs) (all-imp (Inside lim e) (λ (x : Range). outside lim e x ≡ false) (inside-fine lim e xs small r.entry) (committed e xs) r.inside) (omega (arith, r.capacity)),
+                          each_none (outside lim e) 0 (committed e xs) (all_imp (Inside lim e) (λ (x : Range). outside lim e x ≡ false) (inside_fine lim e xs small r.entry) (committed e xs) r.inside) (omega (arith, r.capacity)),
                           (
-                            pass-none 12 _ (ap not (eq-eqb _ _ r.capacity)),
-                            (pass-none 13 _ (disjoint-overlaps (ranges lim e xs) r.disjoint), tt),
+                            pass_none 12 _ (ap not (eq-eqb _ _ r.capacity)),
+                            (pass_none 13 _ (disjoint_overlaps (ranges lim e xs) r.disjoint), tt),
                           ),
                         ),
                       ),
@@ -211,25 +211,25 @@ module _ (lim : Limits) (id : ℕ) (e : Entry) (h : Header) (xs : List ℕ) (pla
   abbrev later : List ℕ
   later = refuse 4 (entry_fails lim e xs) ∷ header_tests id e h ++ extent_tests lim e (committed e xs) ++ overlap_tests (ranges lim e xs)
 
-  later-high : NoneBelow 4 (first later)
-  later-high =
-      first-high 4 later (
-        refuse-high 4 4 _ (omega arith),
+  later_high : NoneBelow 4 (first later)
+  later_high =
+      first_high 4 later (
+        refuse_high 4 4 _ (omega arith),
         (
-          refuse-high 4 5 _ (omega arith),
+          refuse_high 4 5 _ (omega arith),
           (
-            refuse-high 4 6 _ (omega arith),
+            refuse_high 4 6 _ (omega arith),
             (
-              refuse-high 4 7 _ (omega arith),
+              refuse_high 4 7 _ (omega arith),
               (
-                refuse-high 4 8 _ (omega arith),
+                refuse_high 4 8 _ (omega arith),
                 (
-                  refuse-high 4 9 _ (omega arith),
+                  refuse_high 4 9 _ (omega arith),
                   (
-                    refuse-high 4 10 _ (omega arith),
+                    refuse_high 4 10 _ (omega arith),
                     (
-                      ⊎_elim (λ z. inl z) (λ l. inr (omega arith)) (each-high (outside lim e) 0 (committed e xs)),
-                      (refuse-high 4 12 _ (omega arith), (refuse-high 4 13 _ (omega arith), tt)),
+                      ⊎_elim (λ z. inl z) (λ l. inr (omega arith)) (each_high (outside lim e) 0 (committed e xs)),
+                      (refuse_high 4 12 _ (omega arith), (refuse_high 4 13 _ (omega arith), tt)),
                     ),
                   ),
                 ),
@@ -239,32 +239,32 @@ module _ (lim : Limits) (id : ℕ) (e : Entry) (h : Header) (xs : List ℕ) (pla
         ),
       )
 
-  pub refused-1 : lists_fail lim e h xs places ≡ true → refusal_of lim id e h xs places ≡ 1
+  pub refused_1 : lists_fail lim e h xs places ≡ true → refusal_of lim id e h xs places ≡ 1
   unfolding refusal_of first refuse
-  refused-1 f = simp f
+  refused_1 f = simp f
 
-  pub refused-2 : lists_fail lim e h xs places ≡ false → logs_fail lim h ≡ true → refusal_of lim id e h xs places ≡ 2
+  pub refused_2 : lists_fail lim e h xs places ≡ false → logs_fail lim h ≡ true → refusal_of lim id e h xs places ≡ 2
   unfolding refusal_of first refuse
-  refused-2 f g = simp (f, g)
+  refused_2 f g = simp (f, g)
 
-  pub refused-later : lists_fail lim e h xs places ≡ false → logs_fail lim h ≡ false → NoneBelow 4 (refusal_of lim id e h xs places)
+  pub refused_later : lists_fail lim e h xs places ≡ false → logs_fail lim h ≡ false → NoneBelow 4 (refusal_of lim id e h xs places)
   unfolding refusal_of
-  refused-later f g =
-      let e : refusal_of lim id e h xs places ≡ first later = two-pass f g in rw e later-high
+  refused_later f g =
+      let e : refusal_of lim id e h xs places ≡ first later = two_pass f g in rw e later_high
     where
-      two-pass : lists_fail lim e h xs places ≡ false → logs_fail lim h ≡ false → refusal_of lim id e h xs places ≡ first later
-      two-pass f g = first-go (refuse 1 (lists_fail lim e h xs places) ∷ refuse 2 (logs_fail lim h) ∷ []) later (none_first _ (pass-none 1 _ f, (pass-none 2 _ g, tt)))
+      two_pass : lists_fail lim e h xs places ≡ false → logs_fail lim h ≡ false → refusal_of lim id e h xs places ≡ first later
+      two_pass f g = first_go (refuse 1 (lists_fail lim e h xs places) ∷ refuse 2 (logs_fail lim h) ∷ []) later (none_first _ (pass_none 1 _ f, (pass_none 2 _ g, tt)))
 
-  pub exactly-1 : refusal_of lim id e h xs places ≡ 1 → lists_fail lim e h xs places ≡ true
-  exactly-1 z =
+  pub exactly_1 : refusal_of lim id e h xs places ≡ 1 → lists_fail lim e h xs places ≡ true
+  exactly_1 z =
       cases (lists_fail lim e h xs places) (λ t. t)
       (λ f.
-      cases (logs_fail lim h) (λ t. absurd (omega (arith, z, refused-2 f t)))
-      (λ g. absurd (⊎_elim (λ k. omega (arith, z, k)) (λ k. omega (arith, z, k)) (refused-later f g))))
+      cases (logs_fail lim h) (λ t. absurd (omega (arith, z, refused_2 f t)))
+      (λ g. absurd (⊎_elim (λ k. omega (arith, z, k)) (λ k. omega (arith, z, k)) (refused_later f g))))
 
-  pub exactly-2 : refusal_of lim id e h xs places ≡ 2 → (lists_fail lim e h xs places ≡ false) × (logs_fail lim h ≡ true)
-  exactly-2 z =
-      cases (lists_fail lim e h xs places) (λ t. absurd (omega (arith, z, refused-1 t)))
+  pub exactly_2 : refusal_of lim id e h xs places ≡ 2 → (lists_fail lim e h xs places ≡ false) × (logs_fail lim h ≡ true)
+  exactly_2 z =
+      cases (lists_fail lim e h xs places) (λ t. absurd (omega (arith, z, refused_1 t)))
       (λ f.
       cases (logs_fail lim h) (λ t. (f, t))
-      (λ g. absurd (⊎_elim (λ k. omega (arith, z, k)) (λ k. omega (arith, z, k)) (refused-later f g))))
+      (λ g. absurd (⊎_elim (λ k. omega (arith, z, k)) (λ k. omega (arith, z, k)) (refused_later f g))))

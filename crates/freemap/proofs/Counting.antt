@@ -3,7 +3,7 @@ use Rattle.std.proofs.Common.{◌≡◌, ℕ, ◌+◌, ◌*◌, ◌<◌, ◌≤�
 use Rattle.numbers.specs.Pairs.{pairs}
 use Rattle.numbers.specs.Range.{total}
 use Rattle.numbers.specs.Sums.{stop, sum}
-use Rattle.numbers.proofs.Pairs.{pair-next}
+use Rattle.numbers.proofs.Pairs.{pair_next}
 
 -- ---- the sum: two parts of it, and what is left
 
@@ -11,18 +11,18 @@ pub record Summing (gs : List ℕ) (a b i : ℕ) : Type 0 where
   pub below : i ≤ length (pairs gs)
   pub rest : stop (a + b + total (drop i (pairs gs))) ≡ stop (total (pairs gs))
 
-pub sum-begins : (gs : List ℕ) → Summing gs 0 0 0
-sum-begins gs = record { below = omega arith; rest = omega arith }
+pub sum_begins : (gs : List ℕ) → Summing gs 0 0 0
+sum_begins gs = record { below = omega arith; rest = omega arith }
 
 module _ {gs : List ℕ} {a b i : ℕ} (g : Summing gs a b i) where
-  pub sum-on : i < length (pairs gs) → (s : ℕ) → s ≡ stop (a + get_or gs (2 * i + 1) 0) → Summing gs b s (i + 1)
+  pub sum_on : i < length (pairs gs) → (s : ℕ) → s ≡ stop (a + get_or gs (2 * i + 1) 0) → Summing gs b s (i + 1)
   unfolding sum
-  sum-on h s e =
-      let n : total (drop i (pairs gs)) ≡ get_or gs (2 * i + 1) 0 + total (drop (i + 1) (pairs gs)) = rw (pair-next gs i h) in
+  sum_on h s e =
+      let n : total (drop i (pairs gs)) ≡ get_or gs (2 * i + 1) 0 + total (drop (i + 1) (pairs gs)) = rw (pair_next gs i h) in
       record { below = omega arith; rest = omega (arith, g.rest, n, e) }
 
-  pub sum-ends : length (pairs gs) ≤ i → stop (a + b) ≡ stop (total (pairs gs))
+  pub sum_ends : length (pairs gs) ≤ i → stop (a + b) ≡ stop (total (pairs gs))
   unfolding sum
-  sum-ends h =
+  sum_ends h =
       let n : total (drop i (pairs gs)) ≡ 0 = rw (drop_of_length-le (pairs gs) {i = i} h) in
       omega (arith, g.rest, n)

@@ -10,24 +10,24 @@ use Rattle.numbers.specs.Powers.{is_power_of_two}
 use Rattle.numbers.specs.Range.{Range, range, end_of}
 use Rattle.numbers.specs.Sums.{top}
 use Rattle.align.proofs.Least.{masked}
-use Rattle.numbers.proofs.Cases.{cases, by-lt}
-use Rattle.numbers.proofs.Pairs.{pair-next}
-use Rattle.numbers.proofs.Ranges.{end-le, end-top}
+use Rattle.numbers.proofs.Cases.{cases, by_lt}
+use Rattle.numbers.proofs.Pairs.{pair_next}
+use Rattle.numbers.proofs.Ranges.{end_le, end_top}
 
 -- ---- one gap: what allows it, and what does not
 
 module _ (len align skew : ℕ) (g : Range) where
-  pub refused-by : allows len align skew g ≡ false → first_fit len align skew (g ∷ []) ≡ none
+  pub refused_by : allows len align skew g ≡ false → first_fit len align skew (g ∷ []) ≡ none
   unfolding first_fit
-  refused-by e = simp e
+  refused_by e = simp e
 
-  pub allowed-by : allows len align skew g ≡ true → first_fit len align skew (g ∷ []) ≡ some (place_in align skew g)
+  pub allowed_by : allows len align skew g ≡ true → first_fit len align skew (g ∷ []) ≡ some (place_in align skew g)
   unfolding first_fit
-  allowed-by e = simp e
+  allowed_by e = simp e
 
-  over-top : top < g.offset + skew + (align - 1) → skipped align skew g ≡ true
+  over_top : top < g.offset + skew + (align - 1) → skipped align skew g ≡ true
   unfolding skipped
-  over-top h = omega (arith, lt-ltb)
+  over_top h = omega (arith, lt-ltb)
 
   under_top : g.offset + skew + (align - 1) ≤ top → skipped align skew g ≡ false
   unfolding skipped
@@ -35,7 +35,7 @@ module _ (len align skew : ℕ) (g : Range) where
 
   pub skips : top < g.offset + skew + (align - 1) → allows len align skew g ≡ false
   unfolding allows
-  skips h = simp (over-top h)
+  skips h = simp (over_top h)
 
   pub too_far : end_of g < place_in align skew g + len → allows len align skew g ≡ false
   unfolding allows
@@ -56,9 +56,9 @@ module _ (len mask skew start bytes : ℕ) (power : is_power_of_two (mask + 1) �
   abbrev pub fit : Option ℕ
   fit = first_fit len (mask + 1) skew (gap ∷ [])
 
-  pad-place : place_in (mask + 1) skew gap ≡ start + pad
+  pad_place : place_in (mask + 1) skew gap ≡ start + pad
   unfolding place_in
-  pad-place =
+  pad_place =
       let e : mask + 1 - 1 ≡ mask = omega arith in
       let f : start + skew + mask ≡ start + (skew + mask) = omega arith in
       let m = rw (e, f) at (masked 64 (mask + 1) power (start + skew)) in
@@ -66,52 +66,52 @@ module _ (len mask skew start bytes : ℕ) (power : is_power_of_two (mask + 1) �
       omega arith
 
   beyond : end_of gap < start + pad + len → fit ≡ none
-  beyond h = refused-by len (mask + 1) skew gap (too_far len (mask + 1) skew gap (rw pad-place h))
+  beyond h = refused_by len (mask + 1) skew gap (too_far len (mask + 1) skew gap (rw pad_place h))
 
-  pub fit-short : bytes < len → fit ≡ none
-  fit-short h = beyond (let e = end-le gap in omega arith)
+  pub fit_short : bytes < len → fit ≡ none
+  fit_short h = beyond (let e = end_le gap in omega arith)
 
-  pub fit-skipped : top < start + (skew + mask) → fit ≡ none
-  fit-skipped h = refused-by len (mask + 1) skew gap (skips len (mask + 1) skew gap (omega arith))
+  pub fit_skipped : top < start + (skew + mask) → fit ≡ none
+  fit_skipped h = refused_by len (mask + 1) skew gap (skips len (mask + 1) skew gap (omega arith))
 
   -- the two sums as they wrap: both are right unless the gap is skipped
   module _ (reach : ℕ) (reached : reach ≡ (start + (skew + mask)) % 2 ^ 64) where
     exact : start + (skew + mask) ≤ top → reach ≡ start + (skew + mask)
     exact s = omega (arith, reached)
 
-    pub fit-far : len ≤ bytes → bytes - len < mask - bit_and reach mask → fit ≡ none
-    fit-far l h =
-        by-lt top (start + (skew + mask)) fit-skipped (λ s. beyond (let f : bytes - len < pad = rw (exact s) at h in let e = end-le gap in omega arith))
+    pub fit_far : len ≤ bytes → bytes - len < mask - bit_and reach mask → fit ≡ none
+    fit_far l h =
+        by_lt top (start + (skew + mask)) fit_skipped (λ s. beyond (let f : bytes - len < pad = rw (exact s) at h in let e = end_le gap in omega arith))
 
     module _ (at : ℕ) (placed : at ≡ (start + (mask - bit_and reach mask)) % 2 ^ 64) where
-      place-exact : start + (skew + mask) ≤ top → at ≡ start + pad
-      place-exact s = let e : at ≡ (start + pad) % 2 ^ 64 = rw (exact s) at placed in omega (arith, e)
+      place_exact : start + (skew + mask) ≤ top → at ≡ start + pad
+      place_exact s = let e : at ≡ (start + pad) % 2 ^ 64 = rw (exact s) at placed in omega (arith, e)
 
-      pub fit-high : top - at < len → fit ≡ none
-      fit-high h =
-          by-lt top (start + (skew + mask)) fit-skipped (λ s. beyond (let p = place-exact s in let e = end-top gap in omega arith))
+      pub fit_high : top - at < len → fit ≡ none
+      fit_high h =
+          by_lt top (start + (skew + mask)) fit_skipped (λ s. beyond (let p = place_exact s in let e = end_top gap in omega arith))
 
       pub fit_at : start + (skew + mask) ≤ top → len ≤ bytes → mask - bit_and reach mask ≤ bytes - len → len ≤ top - at → fit ≡ some at
       unfolding end_of
       fit_at s l p h =
           let q : pad ≤ bytes - len = rw (exact s) at p in
-          let k = place-exact s in
-          allowed-by len (mask + 1) skew gap (has_room len (mask + 1) skew gap (omega arith) (rw pad-place (omega arith)))
-          ∙ ap some (pad-place ∙ sym k)
+          let k = place_exact s in
+          allowed_by len (mask + 1) skew gap (has_room len (mask + 1) skew gap (omega arith) (rw pad_place (omega arith)))
+          ∙ ap some (pad_place ∙ sym k)
 
 -- ---- one gap more
 
-pub none-some : {a : ℕ} → none ≡ some a → ⊥
-none-some e = let z : ◌≡◌ {A = ℕ} 0 1 = cc in omega arith
+pub none_some : {a : ℕ} → none ≡ some a → ⊥
+none_some e = let z : ◌≡◌ {A = ℕ} 0 1 = cc in omega arith
 
 module _ (len align skew : ℕ) (g : Range) (gs : List Range) where
-  pub fit-here : (a : ℕ) → first_fit len align skew (g ∷ []) ≡ some a → first_fit len align skew (g ∷ gs) ≡ some a
+  pub fit_here : (a : ℕ) → first_fit len align skew (g ∷ []) ≡ some a → first_fit len align skew (g ∷ gs) ≡ some a
   unfolding first_fit
-  fit-here a e = cases (allows len align skew g) (λ t. simp t ((simp t at e))) (λ t. let z : none ≡ some a = simp t at e in absurd (none-some z))
+  fit_here a e = cases (allows len align skew g) (λ t. simp t ((simp t at e))) (λ t. let z : none ≡ some a = simp t at e in absurd (none_some z))
 
-  pub fit-later : first_fit len align skew (g ∷ []) ≡ none → first_fit len align skew (g ∷ gs) ≡ first_fit len align skew gs
+  pub fit_later : first_fit len align skew (g ∷ []) ≡ none → first_fit len align skew (g ∷ gs) ≡ first_fit len align skew gs
   unfolding first_fit
-  fit-later e = cases (allows len align skew g) (λ t. let z : some (place_in align skew g) ≡ none = simp t at e in absurd (none-some (sym z))) (λ t. simp t)
+  fit_later e = cases (allows len align skew g) (λ t. let z : some (place_in align skew g) ≡ none = simp t at e in absurd (none_some (sym z))) (λ t. simp t)
 
 -- ---- the search: no gap in front of i allows it
 
@@ -119,30 +119,30 @@ pub record Searching (len align skew : ℕ) (gs : List ℕ) (i : ℕ) : Type 0 w
   pub below : i ≤ length (pairs gs)
   pub rest : first_fit len align skew (pairs gs) ≡ first_fit len align skew (drop i (pairs gs))
 
-pub search-begins : (len align skew : ℕ) (gs : List ℕ) → Searching len align skew gs 0
-search-begins len align skew gs = record { below = omega arith; rest = refl }
+pub search_begins : (len align skew : ℕ) (gs : List ℕ) → Searching len align skew gs 0
+search_begins len align skew gs = record { below = omega arith; rest = refl }
 
 module _ {len align skew : ℕ} {gs : List ℕ} {i : ℕ} (g : Searching len align skew gs i) where
   module _ (h : i < length (pairs gs)) where
     abbrev here : Range
     here = range (get_or gs (2 * i) 0) (get_or gs (2 * i + 1) 0)
 
-    pub search-found : (a : ℕ) → first_fit len align skew (here ∷ []) ≡ some a → first_fit len align skew (pairs gs) ≡ some a
-    search-found a e = g.rest ∙ ap (first_fit len align skew) (pair-next gs i h) ∙ fit-here len align skew here (drop (i + 1) (pairs gs)) a e
+    pub search_found : (a : ℕ) → first_fit len align skew (here ∷ []) ≡ some a → first_fit len align skew (pairs gs) ≡ some a
+    search_found a e = g.rest ∙ ap (first_fit len align skew) (pair_next gs i h) ∙ fit_here len align skew here (drop (i + 1) (pairs gs)) a e
 
-    pub search-on : first_fit len align skew (here ∷ []) ≡ none → Searching len align skew gs (i + 1)
-    search-on e =
+    pub search_on : first_fit len align skew (here ∷ []) ≡ none → Searching len align skew gs (i + 1)
+    search_on e =
         record {
           below = omega arith;
-          rest = g.rest ∙ ap (first_fit len align skew) (pair-next gs i h) ∙ fit-later len align skew here (drop (i + 1) (pairs gs)) e;
+          rest = g.rest ∙ ap (first_fit len align skew) (pair_next gs i h) ∙ fit_later len align skew here (drop (i + 1) (pairs gs)) e;
         }
 
-  pub search-ends : length (pairs gs) ≤ i → first_fit len align skew (pairs gs) ≡ none
+  pub search_ends : length (pairs gs) ≤ i → first_fit len align skew (pairs gs) ≡ none
   unfolding first_fit
-  search-ends h = g.rest ∙ ap (first_fit len align skew) (drop_of_length-le (pairs gs) {i = i} h)
+  search_ends h = g.rest ∙ ap (first_fit len align skew) (drop_of_length-le (pairs gs) {i = i} h)
 
 -- every gap is skipped
-pub all-skipped : (len align skew : ℕ) → top < skew + (align - 1) → (gs : List Range) → first_fit len align skew gs ≡ none
+pub all_skipped : (len align skew : ℕ) → top < skew + (align - 1) → (gs : List Range) → first_fit len align skew gs ≡ none
 unfolding first_fit
-all-skipped len align skew h [] = refl
-all-skipped len align skew h (g ∷ gs) = simp (skips len align skew g (omega arith)) (all-skipped len align skew h gs)
+all_skipped len align skew h [] = refl
+all_skipped len align skew h (g ∷ gs) = simp (skips len align skew g (omega arith)) (all_skipped len align skew h gs)

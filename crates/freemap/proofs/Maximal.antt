@@ -5,8 +5,8 @@ use Rattle.freemap.specs.Gaps.{Covered, ahead, maximal}
 use Rattle.numbers.specs.Lists.{All}
 use Rattle.numbers.specs.Range.{Range, range, end_of, Has, total}
 use Rattle.numbers.specs.Sums.{top, sum}
-use Rattle.numbers.proofs.Cases.{cases, by-eq}
-use Rattle.numbers.proofs.Ranges.{end-le}
+use Rattle.numbers.proofs.Cases.{cases, by_eq}
+use Rattle.numbers.proofs.Ranges.{end_le}
 
 -- In order from low on, none empty, and a byte at least between two of them.
 abbrev pub Apart : ℕ → List Range → Type 0
@@ -16,14 +16,14 @@ Apart low (g ∷ gs) = (low ≤ g.offset) × (0 < g.len) × Apart (suc (g.offset
 -- ---- a byte in front
 
 -- it joins what begins right behind it, and nothing else
-ahead-joins : (b : ℕ) (g : Range) (gs : List Range) → g.offset ≡ suc b → ahead b (g ∷ gs) ≡ range b (suc g.len) ∷ gs
+ahead_joins : (b : ℕ) (g : Range) (gs : List Range) → g.offset ≡ suc b → ahead b (g ∷ gs) ≡ range b (suc g.len) ∷ gs
 unfolding ahead
-ahead-joins b g gs e = simp (eq-eqb _ _ e)
+ahead_joins b g gs e = simp (eq-eqb _ _ e)
 
-ahead-alone : (b low : ℕ) (gs : List Range) → suc b < low → Apart low gs → ahead b gs ≡ range b 1 ∷ gs
+ahead_alone : (b low : ℕ) (gs : List Range) → suc b < low → Apart low gs → ahead b gs ≡ range b 1 ∷ gs
 unfolding ahead
-ahead-alone b low [] h a = refl
-ahead-alone b low (g ∷ gs) h a =
+ahead_alone b low [] h a = refl
+ahead_alone b low (g ∷ gs) h a =
     let l = a.0 in
     let d : g.offset ≡ suc b → ⊥ = λ e. absurd (omega arith) in
     simp (ne_eqb _ _ d)
@@ -38,89 +38,89 @@ unfolding ahead
 ahead_apart b [] a = (omega arith, omega arith, tt)
 ahead_apart b (g ∷ gs) a =
     let l = a.0 in
-    by-eq g.offset (suc b)
+    by_eq g.offset (suc b)
     (λ e.
     simp (eq-eqb _ _ e)
     (omega arith, omega arith, apart_low (suc (g.offset + g.len)) (suc (b + suc g.len)) gs (omega arith) a.2))
     (λ d. simp (ne_eqb _ _ d) (omega arith, omega arith, (omega arith, a.1, a.2)))
 
 -- and end where they ended
-ahead-ends : (b c : ℕ) (gs : List Range) → b < c → All (λ (g : Range). g.offset + g.len ≤ c) gs → All (λ (g : Range). g.offset + g.len ≤ c) (ahead b gs)
+ahead_ends : (b c : ℕ) (gs : List Range) → b < c → All (λ (g : Range). g.offset + g.len ≤ c) gs → All (λ (g : Range). g.offset + g.len ≤ c) (ahead b gs)
 unfolding ahead
-ahead-ends b c [] h a = (omega arith, tt)
-ahead-ends b c (g ∷ gs) h a =
+ahead_ends b c [] h a = (omega arith, tt)
+ahead_ends b c (g ∷ gs) h a =
     let l = a.0 in
-    by-eq g.offset (suc b) (λ e. simp (eq-eqb _ _ e) (omega arith, a.1)) (λ d. simp (ne_eqb _ _ d) (omega arith, a))
+    by_eq g.offset (suc b) (λ e. simp (eq-eqb _ _ e) (omega arith, a.1)) (λ d. simp (ne_eqb _ _ d) (omega arith, a))
 
 -- a byte of the ranges is b or one of those behind it, and they have all of these
 alone_of : (b x : ℕ) → Has (range b 1) x → x ≡ b
-alone_of b x h = let e = end-le (range b 1) in omega arith
+alone_of b x h = let e = end_le (range b 1) in omega arith
 
-joined-upto : (b x : ℕ) (g : Range) → g.offset ≡ suc b → x < end_of (range b (suc g.len)) → x < end_of g
+joined_upto : (b x : ℕ) (g : Range) → g.offset ≡ suc b → x < end_of (range b (suc g.len)) → x < end_of g
 unfolding end_of
-joined-upto b x g e h = omega arith
+joined_upto b x g e h = omega arith
 
 ahead_of : (b x : ℕ) (gs : List Range) → Covered (ahead b gs) x → (x ≡ b) ⊎ Covered gs x
 unfolding ahead
 ahead_of b x [] (inl h) = inl (alone_of b x h)
 ahead_of b x [] (inr h) = absurd h
 ahead_of b x (g ∷ gs) h =
-    by-eq g.offset (suc b)
+    by_eq g.offset (suc b)
     (λ e.
     let k : Has (range b (suc g.len)) x ⊎ Covered gs x = simp (eq-eqb _ _ e) at h in
     ⊎_elim
-    (λ p. by-eq x b (λ q. inl q) (λ d. inr (inl (record { from = omega arith; upto = joined-upto b x g e p.upto }))))
+    (λ p. by_eq x b (λ q. inl q) (λ d. inr (inl (record { from = omega arith; upto = joined_upto b x g e p.upto }))))
     (λ r. inr (inr r)) k)
     (λ d.
     let k : Has (range b 1) x ⊎ Covered (g ∷ gs) x = simp (ne_eqb _ _ d) at h in
     ⊎_elim (λ p. inl (alone_of b x p)) (λ r. inr r) k)
 
-ahead-first : (b : ℕ) (gs : List Range) → b < top → Covered (ahead b gs) b
+ahead_first : (b : ℕ) (gs : List Range) → b < top → Covered (ahead b gs) b
 unfolding ahead end_of
-ahead-first b [] h = inl (record { from = omega arith; upto = omega arith })
-ahead-first b (g ∷ gs) h =
-    by-eq g.offset (suc b) (λ e. simp (eq-eqb _ _ e) (inl (record { from = omega arith; upto = omega arith })))
+ahead_first b [] h = inl (record { from = omega arith; upto = omega arith })
+ahead_first b (g ∷ gs) h =
+    by_eq g.offset (suc b) (λ e. simp (eq-eqb _ _ e) (inl (record { from = omega arith; upto = omega arith })))
     (λ d. simp (ne_eqb _ _ d) (inl (record { from = omega arith; upto = omega arith })))
 
-ahead-rest : (b x : ℕ) (gs : List Range) → Covered gs x → Covered (ahead b gs) x
+ahead_rest : (b x : ℕ) (gs : List Range) → Covered gs x → Covered (ahead b gs) x
 unfolding ahead end_of
-ahead-rest b x [] h = absurd h
-ahead-rest b x (g ∷ gs) h =
-    by-eq g.offset (suc b)
+ahead_rest b x [] h = absurd h
+ahead_rest b x (g ∷ gs) h =
+    by_eq g.offset (suc b)
     (λ e. simp (eq-eqb _ _ e) (⊎_elim (λ (p : Has g x). inl (record { from = omega arith; upto = omega arith })) (λ r. inr r) h))
     (λ d. simp (ne_eqb _ _ d) (inr h))
 
-ahead-total : (b : ℕ) (gs : List Range) → total (ahead b gs) ≡ suc (total gs)
+ahead_total : (b : ℕ) (gs : List Range) → total (ahead b gs) ≡ suc (total gs)
 unfolding ahead sum
-ahead-total b [] = refl
-ahead-total b (g ∷ gs) = by-eq g.offset (suc b) (λ e. simp (eq-eqb _ _ e) (omega arith)) (λ d. simp (ne_eqb _ _ d) (omega arith))
+ahead_total b [] = refl
+ahead_total b (g ∷ gs) = by_eq g.offset (suc b) (λ e. simp (eq-eqb _ _ e) (omega arith)) (λ d. simp (ne_eqb _ _ d) (omega arith))
 
 -- ---- the ranges
 
 module _ (f : ℕ → Bool) where
-  pub max-apart : (b n : ℕ) → Apart b (maximal f b n)
+  pub max_apart : (b n : ℕ) → Apart b (maximal f b n)
   unfolding maximal
-  max-apart b zero = tt
-  max-apart b (suc n) =
-      let r = max-apart (suc b) n in
+  max_apart b zero = tt
+  max_apart b (suc n) =
+      let r = max_apart (suc b) n in
       cases (f b) (λ e. simp e (ahead_apart b (maximal f (suc b) n) r)) (λ e. simp e (apart_low (suc b) b (maximal f (suc b) n) (omega arith) r))
 
-  pub max-ends : (b n c : ℕ) → b + n ≤ c → All (λ (g : Range). g.offset + g.len ≤ c) (maximal f b n)
+  pub max_ends : (b n c : ℕ) → b + n ≤ c → All (λ (g : Range). g.offset + g.len ≤ c) (maximal f b n)
   unfolding maximal
-  max-ends b zero c h = tt
-  max-ends b (suc n) c h =
-      let r = max-ends (suc b) n c (omega arith) in
-      cases (f b) (λ e. simp e (ahead-ends b c (maximal f (suc b) n) (omega arith) r)) (λ e. simp e r)
+  max_ends b zero c h = tt
+  max_ends b (suc n) c h =
+      let r = max_ends (suc b) n c (omega arith) in
+      cases (f b) (λ e. simp e (ahead_ends b c (maximal f (suc b) n) (omega arith) r)) (λ e. simp e r)
 
   -- they have the bytes that pass, and no others
-  pub max-has : (b n x : ℕ) → b + n ≤ top → b ≤ x → x < b + n → f x ≡ true → Covered (maximal f b n) x
+  pub max_has : (b n x : ℕ) → b + n ≤ top → b ≤ x → x < b + n → f x ≡ true → Covered (maximal f b n) x
   unfolding maximal
-  max-has b zero x t l u p = absurd (omega arith)
-  max-has b (suc n) x t l u p =
-      by-eq x b (λ e. rw e (simp (ap f (sym e) ∙ p) (ahead-first b (maximal f (suc b) n) (omega arith))))
+  max_has b zero x t l u p = absurd (omega arith)
+  max_has b (suc n) x t l u p =
+      by_eq x b (λ e. rw e (simp (ap f (sym e) ∙ p) (ahead_first b (maximal f (suc b) n) (omega arith))))
       (λ d.
-      let r = max-has (suc b) n x (omega arith) (omega arith) (omega arith) p in
-      cases (f b) (λ e. simp e (ahead-rest b x (maximal f (suc b) n) r)) (λ e. simp e r))
+      let r = max_has (suc b) n x (omega arith) (omega arith) (omega arith) p in
+      cases (f b) (λ e. simp e (ahead_rest b x (maximal f (suc b) n) r)) (λ e. simp e r))
 
   pub max_of : (b n x : ℕ) → Covered (maximal f b n) x → (b ≤ x) × (x < b + n) × (f x ≡ true)
   unfolding maximal
@@ -137,48 +137,48 @@ module _ (f : ℕ → Bool) where
       let i = max_of (suc b) n x k in let l = i.0 in let u = i.1 in (omega arith, omega arith, i.2))
 
   -- as many bytes as pass
-  pub max-total : (b n : ℕ) → total (maximal f b n) ≡ counted f b n
+  pub max_total : (b n : ℕ) → total (maximal f b n) ≡ counted f b n
   unfolding maximal counted sum
-  max-total b zero = refl
-  max-total b (suc n) =
-      let r = max-total (suc b) n in
-      cases (f b) (λ e. simp e (ahead-total b (maximal f (suc b) n) ∙ ap suc r)) (λ e. simp e r)
+  max_total b zero = refl
+  max_total b (suc n) =
+      let r = max_total (suc b) n in
+      cases (f b) (λ e. simp e (ahead_total b (maximal f (suc b) n) ∙ ap suc r)) (λ e. simp e r)
 
   -- bytes that fail are passed over
-  pub max-skip : (b c k m n : ℕ) → m ≡ k + n → c ≡ b + k → ((x : ℕ) → b ≤ x → x < c → f x ≡ false) → maximal f b m ≡ maximal f c n
+  pub max_skip : (b c k m n : ℕ) → m ≡ k + n → c ≡ b + k → ((x : ℕ) → b ≤ x → x < c → f x ≡ false) → maximal f b m ≡ maximal f c n
   unfolding maximal
-  max-skip b c zero m n e d h =
+  max_skip b c zero m n e d h =
       let p : m ≡ n = omega arith in
       let q : b ≡ c = omega arith in
       ap (maximal f b) p ∙ ap (λ (y : ℕ). maximal f y n) q
-  max-skip b c (suc k) zero n e d h = absurd (omega arith)
-  max-skip b c (suc k) (suc m) n e d h =
-      simp (h b (omega arith) (omega arith)) (max-skip (suc b) c k m n (omega arith) (omega arith) (λ x l u. h x (omega arith) u))
+  max_skip b c (suc k) zero n e d h = absurd (omega arith)
+  max_skip b c (suc k) (suc m) n e d h =
+      simp (h b (omega arith) (omega arith)) (max_skip (suc b) c k m n (omega arith) (omega arith) (λ x l u. h x (omega arith) u))
 
-  begins-later : (b c n : ℕ) → suc b ≡ c → (n ≡ 0) ⊎ (f c ≡ false) → ahead b (maximal f c n) ≡ range b 1 ∷ maximal f c n
+  begins_later : (b c n : ℕ) → suc b ≡ c → (n ≡ 0) ⊎ (f c ≡ false) → ahead b (maximal f c n) ≡ range b 1 ∷ maximal f c n
   unfolding maximal ahead
-  begins-later b c zero e s = refl
-  begins-later b c (suc n) e (inl z) = absurd (omega arith)
-  begins-later b c (suc n) e (inr z) = simp z (ahead-alone b (suc c) (maximal f (suc c) n) (omega arith) (max-apart (suc c) n))
+  begins_later b c zero e s = refl
+  begins_later b c (suc n) e (inl z) = absurd (omega arith)
+  begins_later b c (suc n) e (inr z) = simp z (ahead_alone b (suc c) (maximal f (suc c) n) (omega arith) (max_apart (suc c) n))
 
   -- bytes that pass up to one that fails, or to the end, are a range
-  pub max-take : (b c k m n : ℕ) → 0 < k → m ≡ k + n → c ≡ b + k → ((x : ℕ) → b ≤ x → x < c → f x ≡ true) → (n ≡ 0) ⊎ (f c ≡ false) → maximal f b m ≡ range b k ∷ maximal f c n
+  pub max_take : (b c k m n : ℕ) → 0 < k → m ≡ k + n → c ≡ b + k → ((x : ℕ) → b ≤ x → x < c → f x ≡ true) → (n ≡ 0) ⊎ (f c ≡ false) → maximal f b m ≡ range b k ∷ maximal f c n
   unfolding maximal
-  max-take b c zero m n p e d h s = absurd (omega arith)
-  max-take b c (suc k) zero n p e d h s = absurd (omega arith)
-  max-take b c (suc zero) (suc m) n p e d h s =
+  max_take b c zero m n p e d h s = absurd (omega arith)
+  max_take b c (suc k) zero n p e d h s = absurd (omega arith)
+  max_take b c (suc zero) (suc m) n p e d h s =
       let q : suc b ≡ c = omega arith in
       let r : m ≡ n = omega arith in
-      simp (h b (omega arith) (omega arith)) (ap (λ (y : ℕ). ahead b (maximal f y m)) q ∙ ap (λ (y : ℕ). ahead b (maximal f c y)) r ∙ begins-later b c n q s)
-  max-take b c (suc (suc k)) (suc m) n p e d h s =
-      let r = max-take (suc b) c (suc k) m n (omega arith) (omega arith) (omega arith) (λ x l u. h x (omega arith) u) s in
-      simp (h b (omega arith) (omega arith)) (ap (ahead b) r ∙ ahead-joins b (range (suc b) (suc k)) (maximal f c n) refl)
+      simp (h b (omega arith) (omega arith)) (ap (λ (y : ℕ). ahead b (maximal f y m)) q ∙ ap (λ (y : ℕ). ahead b (maximal f c y)) r ∙ begins_later b c n q s)
+  max_take b c (suc (suc k)) (suc m) n p e d h s =
+      let r = max_take (suc b) c (suc k) m n (omega arith) (omega arith) (omega arith) (λ x l u. h x (omega arith) u) s in
+      simp (h b (omega arith) (omega arith)) (ap (ahead b) r ∙ ahead_joins b (range (suc b) (suc k)) (maximal f c n) refl)
 
 -- a test that agrees on all the bytes
-pub max-same : (f g : ℕ → Bool) (b n : ℕ) → ((x : ℕ) → b ≤ x → x < b + n → f x ≡ g x) → maximal f b n ≡ maximal g b n
+pub max_same : (f g : ℕ → Bool) (b n : ℕ) → ((x : ℕ) → b ≤ x → x < b + n → f x ≡ g x) → maximal f b n ≡ maximal g b n
 unfolding maximal
-max-same f g b zero h = refl
-max-same f g b (suc n) h =
-    let r = max-same f g (suc b) n (λ x l u. h x (omega arith) (omega arith)) in
+max_same f g b zero h = refl
+max_same f g b (suc n) h =
+    let r = max_same f g (suc b) n (λ x l u. h x (omega arith) (omega arith)) in
     let e : f b ≡ g b = h b (omega arith) (omega arith) in
     cases (g b) (λ t. simp (e, t) (ap (ahead b) r)) (λ t. simp (e, t) r)

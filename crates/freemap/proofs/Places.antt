@@ -7,14 +7,14 @@ use Rattle.numbers.specs.Lists.{All, Any}
 use Rattle.numbers.specs.Range.{Range, range, blank, end_of, Has, Meet}
 use Rattle.numbers.specs.Sums.{top}
 use Rattle.align.proofs.Least.{up_least}
-use Rattle.freemap.proofs.Fitting.{has_room, none-some}
+use Rattle.freemap.proofs.Fitting.{has_room, none_some}
 use Rattle.freemap.proofs.Maximal.{Apart}
 use Rattle.freemap.proofs.Ordered.{Spans, apart_from}
-use Rattle.freemap.proofs.Words.{gap-free, gaps-apart, gaps-inside, span-in-gap}
+use Rattle.freemap.proofs.Words.{gap_free, gaps_apart, gaps_inside, span_in_gap}
 use Rattle.numbers.proofs.Cases.{cases, clash, and-true}
 use Rattle.numbers.proofs.Disjoint.{MeetsNone}
-use Rattle.numbers.proofs.Lists.{all-imp, all_of, all-at, any-imp, any_of, any_at}
-use Rattle.numbers.proofs.Ranges.{end-le, end-exact}
+use Rattle.numbers.proofs.Lists.{all_imp, all_of, all_at, any_imp, any_of, any_at}
+use Rattle.numbers.proofs.Ranges.{end_le, end_exact}
 
 -- p + skew is a multiple of align.
 pub record Multiple (align skew p : ℕ) : Type 0 where
@@ -27,9 +27,9 @@ pub record LeastPlace (align skew start at : ℕ) : Type 0 where
   pub above : start ≤ at
   pub least : (p : ℕ) → start ≤ p → Multiple align skew p → at ≤ p
 
-pub place-least : (align skew : ℕ) → 0 < align → (g : Range) → LeastPlace align skew g.offset (place_in align skew g)
+pub place_least : (align skew : ℕ) → 0 < align → (g : Range) → LeastPlace align skew g.offset (place_in align skew g)
 unfolding place_in
-place-least align skew pos g =
+place_least align skew pos g =
     let u = up_least (g.offset + skew) align pos in
     let a = u.above in
     record {
@@ -55,25 +55,25 @@ module _ (n align skew : ℕ) (pos : 0 < align) where
   -- a gap allows a place only at the least, inside it
   allowed : (g : Range) → allows n align skew g ≡ true → Inside n (place_in align skew g) g
   unfolding allows
-  allowed g e = ((place-least align skew pos g).above, leb-true _ _ (and-true (not (skipped align skew g)) _ e).1)
+  allowed g e = ((place_least align skew pos g).above, leb-true _ _ (and-true (not (skipped align skew g)) _ e).1)
 
   -- and allows it where it has any
   allowing : (g : Range) → g.offset + skew + (align - 1) ≤ top → (p : ℕ) → Multiple align skew p → Inside n p g → allows n align skew g ≡ true
   allowing g s p m i =
-      let l = (place-least align skew pos g).least p i.0 m in
+      let l = (place_least align skew pos g).least p i.0 m in
       let u = i.1 in
       has_room n align skew g s (omega arith)
 
   -- the answer is a place
   pub fit_found : (gs : List Range) (a : ℕ) → first_fit n align skew gs ≡ some a → Fits gs n align skew a
   unfolding first_fit
-  fit_found [] a e = absurd (none-some e)
+  fit_found [] a e = absurd (none_some e)
   fit_found (g ∷ gs) a e =
       cases (allows n align skew g)
       (λ t.
       let q : some (place_in align skew g) ≡ some a = simp t at e in
       let s : place_in align skew g ≡ a = cc in
-      rw (← s) (record { multiple = (place-least align skew pos g).multiple; gap = inl (allowed g t) }))
+      rw (← s) (record { multiple = (place_least align skew pos g).multiple; gap = inl (allowed g t) }))
       (λ t.
       let f = fit_found gs a (simp t at e) in
       record { multiple = f.multiple; gap = inr f.gap })
@@ -84,23 +84,23 @@ module _ (n align skew : ℕ) (pos : 0 < align) where
       ⊎_elim (λ i. clash (allowing g s p f.multiple i) t) (λ r. record { multiple = f.multiple; gap = r }) f.gap
 
   -- no place is lower
-  pub fit-least : (low : ℕ) (gs : List Range) → Apart low gs → NoneSkipped align skew gs → (a : ℕ) → first_fit n align skew gs ≡ some a → (p : ℕ) → Fits gs n align skew p → a ≤ p
+  pub fit_least : (low : ℕ) (gs : List Range) → Apart low gs → NoneSkipped align skew gs → (a : ℕ) → first_fit n align skew gs ≡ some a → (p : ℕ) → Fits gs n align skew p → a ≤ p
   unfolding first_fit
-  fit-least low [] o s a e p f = absurd (none-some e)
-  fit-least low (g ∷ gs) o s a e p f =
+  fit_least low [] o s a e p f = absurd (none_some e)
+  fit_least low (g ∷ gs) o s a e p f =
       cases (allows n align skew g)
       (λ t.
       let q : some (place_in align skew g) ≡ some a = simp t at e in
       let i : place_in align skew g ≡ a = cc in
       rw (← i)
-      (⊎_elim (λ i. (place-least align skew pos g).least p i.0 f.multiple)
+      (⊎_elim (λ i. (place_least align skew pos g).least p i.0 f.multiple)
       (λ r.
       let h = apart_from (Inside n p) p (λ x i. i.0) (suc (g.offset + g.len)) gs o.2 r in
       let k = (allowed g t).1 in
-      let l = end-le g in
+      let l = end_le g in
       omega arith)
       f.gap))
-      (λ t. fit-least (suc (g.offset + g.len)) gs o.2 s.1 a (simp t at e) p (not_first g gs s.0 t p f))
+      (λ t. fit_least (suc (g.offset + g.len)) gs o.2 s.1 a (simp t at e) p (not_first g gs s.0 t p f))
 
   -- there is none where there is no answer
   pub fit_none : (gs : List Range) → NoneSkipped align skew gs → first_fit n align skew gs ≡ none → (p : ℕ) → Fits gs n align skew p → ⊥
@@ -108,7 +108,7 @@ module _ (n align skew : ℕ) (pos : 0 < align) where
   fit_none [] s e p f = f.gap
   fit_none (g ∷ gs) s e p f =
       cases (allows n align skew g)
-      (λ t. let q : some (place_in align skew g) ≡ none = simp t at e in none-some (sym q))
+      (λ t. let q : some (place_in align skew g) ≡ none = simp t at e in none_some (sym q))
       (λ t. fit_none gs s.1 (simp t at e) p (not_first g gs s.0 t p f))
 
 -- ---- by free bytes
@@ -129,33 +129,33 @@ module _ (te len : ℕ) (rs : List Range) (small : len ≤ top) (n align skew : 
   gaps = gaps_of te len rs
 
   -- a place in a gap is a free span, and a free span is a place in a gap
-  fits-free : 0 < n → (p : ℕ) → Fits gaps n align skew p → FreeSpan te len rs n align skew p
-  fits-free z p f =
+  fits_free : 0 < n → (p : ℕ) → Fits gaps n align skew p → FreeSpan te len rs n align skew p
+  fits_free z p f =
       let inside : (b : ℕ) → p ≤ b → b < p + n → Covered gaps b = λ b l u.
-      any-imp (Inside n p) (λ (g : Range). Has g b) (λ g i. let v = i.0 in let w = i.1 in record { from = omega arith; upto = omega arith }) gaps f.gap in
-      let first = gap-free te len rs small p (inside p (omega arith) (omega arith)) in
-      let last = (gap-free te len rs small (p + n - 1) (inside (p + n - 1) (omega arith) (omega arith))).1 in
-      record { multiple = f.multiple; from = first.0; upto = omega arith; free = λ b l u. (gap-free te len rs small b (inside b l u)).2 }
+      any_imp (Inside n p) (λ (g : Range). Has g b) (λ g i. let v = i.0 in let w = i.1 in record { from = omega arith; upto = omega arith }) gaps f.gap in
+      let first = gap_free te len rs small p (inside p (omega arith) (omega arith)) in
+      let last = (gap_free te len rs small (p + n - 1) (inside (p + n - 1) (omega arith) (omega arith))).1 in
+      record { multiple = f.multiple; from = first.0; upto = omega arith; free = λ b l u. (gap_free te len rs small b (inside b l u)).2 }
 
-  free-fits : 0 < n → (p : ℕ) → FreeSpan te len rs n align skew p → Fits gaps n align skew p
+  free_fits : 0 < n → (p : ℕ) → FreeSpan te len rs n align skew p → Fits gaps n align skew p
   unfolding end_of
-  free-fits z p s =
+  free_fits z p s =
       let u = s.upto in
       record {
         multiple = s.multiple;
         gap =
-            any-imp (Spans p n) (Inside n p) (λ g i. let v = i.1 in (i.0, omega arith)) gaps
-            (span-in-gap te len rs small p n z s.from u s.free);
+            any_imp (Spans p n) (Inside n p) (λ g i. let v = i.1 in (i.0, omega arith)) gaps
+            (span_in_gap te len rs small p n z s.from u s.free);
       }
 
   -- no gap is skipped where the container ends low enough
-  pub sums-below : len + skew + (align - 1) ≤ top → NoneSkipped align skew gaps
-  sums-below h = all-imp (λ (g : Range). g.offset + g.len ≤ len) (λ (g : Range). g.offset + skew + (align - 1) ≤ top) (λ g l. omega arith) gaps (gaps-inside te len rs small)
+  pub sums_below : len + skew + (align - 1) ≤ top → NoneSkipped align skew gaps
+  sums_below h = all_imp (λ (g : Range). g.offset + g.len ≤ len) (λ (g : Range). g.offset + skew + (align - 1) ≤ top) (λ g l. omega arith) gaps (gaps_inside te len rs small)
 
   module _ (pos : 0 < align) where
     -- every answer is a free span, whatever the sums
     pub fit_free : 0 < n → (a : ℕ) → first_fit n align skew gaps ≡ some a → FreeSpan te len rs n align skew a
-    fit_free z a e = fits-free z a (fit_found n align skew pos gaps a e)
+    fit_free z a e = fits_free z a (fit_found n align skew pos gaps a e)
 
     -- so none where there is no free span
     pub no_span : 0 < n → ((p : ℕ) → FreeSpan te len rs n align skew p → ⊥) → first_fit n align skew gaps ≡ none
@@ -164,15 +164,15 @@ module _ (te len : ℕ) (rs : List Range) (small : len ≤ top) (n align skew : 
     module _ (sums : NoneSkipped align skew gaps) where
       -- the least free span of all, lowest address first
       pub first-fit : 0 < n → (a : ℕ) → first_fit n align skew gaps ≡ some a → (p : ℕ) → FreeSpan te len rs n align skew p → a ≤ p
-      first-fit z a e p s = fit-least n align skew pos te gaps (gaps-apart te len rs small) sums a e p (free-fits z p s)
+      first-fit z a e p s = fit_least n align skew pos te gaps (gaps_apart te len rs small) sums a e p (free_fits z p s)
 
       -- none only where there is none
-      pub no-fit : 0 < n → first_fit n align skew gaps ≡ none → (p : ℕ) → FreeSpan te len rs n align skew p → ⊥
-      no-fit z e p s = fit_none n align skew pos gaps sums e p (free-fits z p s)
+      pub no_fit : 0 < n → first_fit n align skew gaps ≡ none → (p : ℕ) → FreeSpan te len rs n align skew p → ⊥
+      no_fit z e p s = fit_none n align skew pos gaps sums e p (free_fits z p s)
 
       -- of any length, 0 too: the least place in a gap, its end included
-      pub first-place : (a : ℕ) → first_fit n align skew gaps ≡ some a → (p : ℕ) → Fits gaps n align skew p → a ≤ p
-      first-place a e p f = fit-least n align skew pos te gaps (gaps-apart te len rs small) sums a e p f
+      pub first_place : (a : ℕ) → first_fit n align skew gaps ≡ some a → (p : ℕ) → Fits gaps n align skew p → a ≤ p
+      first_place a e p f = fit_least n align skew pos te gaps (gaps_apart te len rs small) sums a e p f
 
 -- ---- at one stroke, where no sum passes 2^64 - 1: the least free span of all, and none exactly where there is none
 
@@ -186,11 +186,11 @@ pub record Lowest (te len : ℕ) (rs : List Range) (n align skew : ℕ) (o : Opt
   pub is_none : o ≡ none → (p : ℕ) → FreeSpan te len rs n align skew p → ⊥
   pub none_is : ((p : ℕ) → FreeSpan te len rs n align skew p → ⊥) → o ≡ none
 
-pub fit-lowest : (te len : ℕ) (rs : List Range) (n align skew : ℕ) → 0 < n → 0 < align → len + skew + (align - 1) ≤ top
+pub fit_lowest : (te len : ℕ) (rs : List Range) (n align skew : ℕ) → 0 < n → 0 < align → len + skew + (align - 1) ≤ top
     → Lowest te len rs n align skew (first_fit n align skew (gaps_of te len rs))
-fit-lowest te len rs n align skew z pos h =
+fit_lowest te len rs n align skew z pos h =
     let small : len ≤ top = omega arith in
-    let sums = sums-below te len rs small n align skew h in
+    let sums = sums_below te len rs small n align skew h in
     let least : (a : ℕ) → first_fit n align skew (gaps_of te len rs) ≡ some a → LeastSpan te len rs n align skew a = λ a e.
     record { span = fit_free te len rs small n align skew pos z a e; least = first-fit te len rs small n align skew pos sums z a e } in
     record {
@@ -198,31 +198,31 @@ fit-lowest te len rs n align skew z pos h =
       some_is = λ a s.
           by_answer (first_fit n align skew (gaps_of te len rs))
           (λ b e. let l = least b e in e ∙ ap some (le_antisymm (l.least a s.span) (s.least b l.span)))
-          (λ e. absurd (no-fit te len rs small n align skew pos sums z e a s.span));
-      is_none = no-fit te len rs small n align skew pos sums z;
+          (λ e. absurd (no_fit te len rs small n align skew pos sums z e a s.span));
+      is_none = no_fit te len rs small n align skew pos sums z;
       none_is = no_span te len rs small n align skew pos z;
     }
 
 -- ---- a free span "meets nothing held"
 
 module _ (te len : ℕ) (rs : List Range) (small : len ≤ top) (n align skew p : ℕ) where
-  pub span-meets-none : FreeSpan te len rs n align skew p → MeetsNone (range p n) rs
-  span-meets-none s =
+  pub span_meets_none : FreeSpan te len rs n align skew p → MeetsNone (range p n) rs
+  span_meets_none s =
       all_of (λ (r : Range). Meet (range p n) r → ⊥) rs blank
       (λ i h m.
       let l = m.left.from in
       let u = m.left.upto in
-      let e = end-le (range p n) in
+      let e = end_le (range p n) in
       s.free m.byte l (omega arith) (any_of (λ (r : Range). Has r m.byte) rs i blank h m.right))
 
-  pub meets-none-span : Multiple align skew p → te ≤ p → p + n ≤ len → MeetsNone (range p n) rs → FreeSpan te len rs n align skew p
-  meets-none-span m l u a =
+  pub meets_none_span : Multiple align skew p → te ≤ p → p + n ≤ len → MeetsNone (range p n) rs → FreeSpan te len rs n align skew p
+  meets_none_span m l u a =
       record {
         multiple = m;
         from = l;
         upto = u;
         free = λ b f t c.
             let q = any_at (λ (r : Range). Has r b) rs blank c in
-            let e = end-exact (range p n) (omega arith) in
-            all-at (λ (r : Range). Meet (range p n) r → ⊥) rs q.0 blank a q.1 (record { byte = b; left = record { from = f; upto = omega arith }; right = q.2 });
+            let e = end_exact (range p n) (omega arith) in
+            all_at (λ (r : Range). Meet (range p n) r → ⊥) rs q.0 blank a q.1 (record { byte = b; left = record { from = f; upto = omega arith }; right = q.2 });
       }

@@ -13,12 +13,12 @@ abbrev pub bytes_of : FreeBytes → Answer ℕ
 bytes_of (Bytes n) = accepted n
 bytes_of (Refused n) = refused n
 
--- What `free_bytes` answers, of any record and list. Of `complement`'s gaps the sum never stops (`free-whole` in proofs/Words).
+-- What `free_bytes` answers, of any record and list. Of `complement`'s gaps the sum never stops (`free_whole` in proofs/Words).
 abbrev pub free_of : FreeMap → List ℕ → Answer ℕ
 free_of m gs = answer (refuse 1 (too_few m gs)) (stop (total (gaps_in m gs)))
 
--- How many of the n bytes from b on pass a test; `free-counted` and `free-and-covered` (proofs/Words) count free bytes and others,
--- `held-and-free` (proofs/Held) those of ranges of which no two meet.
+-- How many of the n bytes from b on pass a test; `free_counted` and `free_and_covered` (proofs/Words) count free bytes and others,
+-- `held_and_free` (proofs/Held) those of ranges of which no two meet.
 unfoldable pub counted : (ℕ → Bool) → ℕ → ℕ → ℕ
 counted f b zero = 0
 counted f b (suc n) = cond (f b) (suc (counted f (suc b) n)) (counted f (suc b) n)

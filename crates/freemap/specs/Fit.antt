@@ -11,7 +11,7 @@ use Rattle.numbers.specs.Range.{Range, end_of}
 use Rattle.numbers.specs.Refusals.{Answer, accepted, refused, answer, refuse, first}
 use Rattle.numbers.specs.Sums.{top}
 
--- "the least at >= start with at + skew a multiple of align"; `place-least` (proofs/Places) says that it is.
+-- "the least at >= start with at + skew a multiple of align"; `place_least` (proofs/Places) says that it is.
 unfoldable pub place_in : ℕ → ℕ → Range → ℕ
 place_in align skew g = up_to (g.offset + skew) align - skew
 
@@ -23,7 +23,7 @@ skipped align skew g = nat_lt top (g.offset + skew + (align - 1))
 unfoldable pub allows : ℕ → ℕ → ℕ → Range → Bool
 allows len align skew g = not (skipped align skew g) && nat_le (place_in align skew g + len) (end_of g)
 
--- "in the first gap that allows it"; `fit-lowest` (proofs/Places) says that it is the least free span of all, and none
+-- "in the first gap that allows it"; `fit_lowest` (proofs/Places) says that it is the least free span of all, and none
 -- exactly where there is none.
 unfoldable pub first_fit : ℕ → ℕ → ℕ → List Range → Option ℕ
 first_fit len align skew [] = none

@@ -13,7 +13,7 @@ use Rattle.sort.specs.Sort.{sorted}
 abbrev pub Covered : List Range → ℕ → Type 0
 Covered rs b = Any (λ (r : Range). Has r b) rs
 
--- The same as a test; `covered-true` and `true-covered` (proofs/Words) tie it to `Covered`.
+-- The same as a test; `covered_true` and `true_covered` (proofs/Words) tie it to `Covered`.
 unfoldable pub covered : List Range → ℕ → Bool
 covered rs b = any (λ (r : Range). has r b) rs
 
@@ -32,12 +32,12 @@ maximal f b zero = []
 maximal f b (suc n) = cond (f b) (ahead b (maximal f (suc b) n)) (maximal f (suc b) n)
 
 -- "the maximal gaps of [table end, length) that meet no range", none where length is below table end. proofs/Words has what
--- that says: `in-gap` and `gap-free`, they have the free bytes and no others; `gaps-meet-none`; `gaps-apart` and `span-in-gap`,
--- they stand in order and apart, and are maximal; `gaps-only`, no other list is like that.
+-- that says: `in_gap` and `gap_free`, they have the free bytes and no others; `gaps_meet_none`; `gaps_apart` and `span_in_gap`,
+-- they stand in order and apart, and are maximal; `gaps_only`, no other list is like that.
 abbrev pub gaps_of : ℕ → ℕ → List Range → List Range
 gaps_of te len rs = maximal (free rs) te (len - te)
 
--- "tail is the greatest of table end and all ends of ranges of length above 0"; `tail-greatest` (proofs/Words) says that it is.
+-- "tail is the greatest of table end and all ends of ranges of length above 0"; `tail_greatest` (proofs/Words) says that it is.
 unfoldable pub tail_of : ℕ → List Range → ℕ
 tail_of te [] = te
 tail_of te (r ∷ rs) = cond (r.len == 0) (tail_of te rs) (max (end_of r) (tail_of te rs))
@@ -61,7 +61,7 @@ pub record Complemented (te len : ℕ) (rs₀ rs gs₀ gs : List ℕ) (r : Compl
   pub ranges : rs ≡ cond (complement_fails rs₀ gs₀) rs₀ (flat (sorted (pairs rs₀)))
   pub slots : gs ≡ list_after (complement_fails rs₀ gs₀) (flat (gaps_of te len (pairs rs₀))) gs₀
 
--- The gaps that a record counts in a list; `gaps-read` (proofs/Words) says that these are `complement`'s.
+-- The gaps that a record counts in a list; `gaps_read` (proofs/Words) says that these are `complement`'s.
 abbrev pub gaps_in : FreeMap → List ℕ → List Range
 gaps_in m gs = take m.count (pairs gs)
 

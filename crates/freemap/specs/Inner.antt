@@ -12,7 +12,7 @@ use Rattle.numbers.specs.Range.{Range, range, end_of}
 abbrev pub gap_to : ℕ → ℕ → List Range
 gap_to a b = cond (nat_lt a b) (range a (b - a) ∷ []) []
 
--- The gaps from a up to len, given the ranges in order: of the sorted list they are `gaps_of` (`Swept-of` in proofs/Sweeping).
+-- The gaps from a up to len, given the ranges in order: of the sorted list they are `gaps_of` (`swept_of` in proofs/Sweeping).
 unfoldable pub swept : ℕ → ℕ → List Range → List Range
 swept len a [] = gap_to a len
 swept len a (r ∷ rs) = cond (r.len == 0) (swept len a rs) (gap_to a (min r.offset len) ++ swept len (max a (end_of r)) rs)

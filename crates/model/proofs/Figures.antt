@@ -13,10 +13,10 @@ use Rattle.numbers.specs.Keyed.{HasKey}
 use Rattle.numbers.specs.Lists.{All}
 use Rattle.numbers.specs.Range.{Within}
 use Rattle.numbers.specs.Sums.{top, sum}
-use Rattle.model.proofs.Regions.{all-footprints, footprints-total, if_tag, sum_tag, sum-without}
+use Rattle.model.proofs.Regions.{all_footprints, footprints_total, if_tag, sum_tag, sum_without}
 use Rattle.model.proofs.Sound.{Regular, Sound}
 use Rattle.numbers.proofs.Cases.{cases}
-use Rattle.numbers.proofs.Lists.{all-imp}
+use Rattle.numbers.proofs.Lists.{all_imp}
 use Rattle.freemap.proofs.Held as bytes
 
 -- a footprint is two blocks and the capacity
@@ -25,64 +25,64 @@ unfolding sum
 footprint-len lim r = omega arith
 
 -- sums of what is no greater are no greater
-sum-le : (f g : Region → ℕ) (rs : List Region) → All (λ (r : Region). f r ≤ g r) rs → sum (map f rs) ≤ sum (map g rs)
+sum_le : (f g : Region → ℕ) (rs : List Region) → All (λ (r : Region). f r ≤ g r) rs → sum (map f rs) ≤ sum (map g rs)
 unfolding sum
-sum-le f g [] a = omega arith
-sum-le f g (r ∷ rs) a = let i = sum-le f g rs a.1 in let l = a.0 in omega arith
+sum_le f g [] a = omega arith
+sum_le f g (r ∷ rs) a = let i = sum_le f g rs a.1 in let l = a.0 in omega arith
 
-tag-le : (f g : Region → ℕ) (tag : ℕ) (rs : List Region) → All (λ (r : Region). f r ≤ g r) rs → sum (map f (of_tag tag rs)) ≤ sum (map g rs)
-tag-le f g tag rs a =
+tag_le : (f g : Region → ℕ) (tag : ℕ) (rs : List Region) → All (λ (r : Region). f r ≤ g r) rs → sum (map f (of_tag tag rs)) ≤ sum (map g rs)
+tag_le f g tag rs a =
     let h : Region → ℕ = λ r. if_tag r.tag tag (f r) in
     let e = sum_tag f tag rs in
-    let i = sum-le h g rs
-    (all-imp (λ (r : Region). f r ≤ g r) (λ (r : Region). h r ≤ g r) (λ r l. cases (eqb r.tag tag) (λ t. simp t l) (λ t. simp t (omega arith))) rs a) in
+    let i = sum_le h g rs
+    (all_imp (λ (r : Region). f r ≤ g r) (λ (r : Region). h r ≤ g r) (λ r l. cases (eqb r.tag tag) (λ t. simp t l) (λ t. simp t (omega arith))) rs a) in
     omega arith
 
 -- held bytes from two blocks and the capacity of each region
-pub held-by-capacity : (w : World) → held w ≡ sum (map (λ (r : Region). 2 * block w + capacity r) w.regions)
+pub held_by_capacity : (w : World) → held w ≡ sum (map (λ (r : Region). 2 * block w + capacity r) w.regions)
 unfolding sum
-held-by-capacity w = by-region w.regions
+held_by_capacity w = by_region w.regions
   where
-    by-region : (rs : List Region) → sum (map (footprint_len w.limits) rs) ≡ sum (map (λ (r : Region). 2 * block w + capacity r) rs)
-    by-region [] = refl
-    by-region (r ∷ rs) = let i = by-region rs in let e = footprint-len w.limits r in omega arith
+    by_region : (rs : List Region) → sum (map (footprint_len w.limits) rs) ≡ sum (map (λ (r : Region). 2 * block w + capacity r) rs)
+    by_region [] = refl
+    by_region (r ∷ rs) = let i = by_region rs in let e = footprint-len w.limits r in omega arith
 
 module _ (w : World) (s : Sound w) where
   -- footprints lie between table end and length
-  pub held-within : All (Within w.limits.table_end w.limits.file_len) (held_ranges w)
-  held-within =
-      all-footprints (Within w.limits.table_end w.limits.file_len) w.limits w.regions
-      (all-imp (Regular w.limits) (λ (r : Region). All (Within w.limits.table_end w.limits.file_len) (footprint w.limits r))
+  pub held_within : All (Within w.limits.table_end w.limits.file_len) (held_ranges w)
+  held_within =
+      all_footprints (Within w.limits.table_end w.limits.file_len) w.limits w.regions
+      (all_imp (Regular w.limits) (λ (r : Region). All (Within w.limits.table_end w.limits.file_len) (footprint w.limits r))
       (λ r q.
-      all-imp (Within r.span-start r.span-end) (Within w.limits.table_end w.limits.file_len)
+      all_imp (Within r.span-start r.span-end) (Within w.limits.table_end w.limits.file_len)
       (λ x i. record { from = omega (arith, i.from, q.table); upto = omega (arith, i.upto, q.file) }) (footprint w.limits r) q.inside)
       w.regions s.regular)
 
-  pub held-and-free : held w + free w ≡ w.limits.file_len - w.limits.table_end
-  held-and-free =
-      let e = footprints-total w.limits w.regions in
-      let h = bytes.held-and-free w.limits.table_end w.limits.file_len (omega (arith, s.container.file)) (held_ranges w) held-within s.apart in
+  pub held_and_free : held w + free w ≡ w.limits.file_len - w.limits.table_end
+  held_and_free =
+      let e = footprints_total w.limits w.regions in
+      let h = bytes.held_and_free w.limits.table_end w.limits.file_len (omega (arith, s.container.file)) (held_ranges w) held_within s.apart in
       omega arith
 
-  pub held-most : held w ≤ top
-  held-most = let e = held-and-free in omega (arith, e, s.container.file)
+  pub held_most : held w ≤ top
+  held_most = let e = held_and_free in omega (arith, e, s.container.file)
 
   -- no total of a tag passes 2^64 - 1
-  pub physical-most : (tag : ℕ) → physical w tag ≤ held w
-  physical-most tag =
-      tag-le (footprint_len w.limits) (footprint_len w.limits) tag w.regions
-      (all-imp (Regular w.limits) (λ (r : Region). footprint_len w.limits r ≤ footprint_len w.limits r) (λ r q. omega arith) w.regions s.regular)
+  pub physical_most : (tag : ℕ) → physical w tag ≤ held w
+  physical_most tag =
+      tag_le (footprint_len w.limits) (footprint_len w.limits) tag w.regions
+      (all_imp (Regular w.limits) (λ (r : Region). footprint_len w.limits r ≤ footprint_len w.limits r) (λ r q. omega arith) w.regions s.regular)
 
-  pub logical-most : (tag : ℕ) → logical w tag ≤ held w
-  logical-most tag =
-      tag-le (λ (r : Region). r.published) (footprint_len w.limits) tag w.regions
-      (all-imp (Regular w.limits) (λ (r : Region). r.published ≤ footprint_len w.limits r)
+  pub logical_most : (tag : ℕ) → logical w tag ≤ held w
+  logical_most tag =
+      tag_le (λ (r : Region). r.published) (footprint_len w.limits) tag w.regions
+      (all_imp (Regular w.limits) (λ (r : Region). r.published ≤ footprint_len w.limits r)
       (λ r q. let e = footprint-len w.limits r in omega (arith, q.size, e)) w.regions s.regular)
 
   -- nor a capacity
-  pub capacity-most : (id : ℕ) → HasKey id_of id w.regions → capacity (region_in w id) ≤ top
-  capacity-most id k =
-      let e = sum-without (footprint_len w.limits) id w.regions k in
+  pub capacity_most : (id : ℕ) → HasKey id_of id w.regions → capacity (region_in w id) ≤ top
+  capacity_most id k =
+      let e = sum_without (footprint_len w.limits) id w.regions k in
       let f = footprint-len w.limits (region_in w id) in
-      let h = held-most in
+      let h = held_most in
       omega arith

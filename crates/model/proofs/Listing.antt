@@ -26,21 +26,21 @@ use Rattle.runs.specs.Runs.{not_empty, joined_to, joined, runs_from}
 use Rattle.settle.specs.Settle.{marks_from}
 use Rattle.sort.specs.Sort.{sorted, insert}
 use Rattle.tagspace.specs.Row.{fits, allows as cap_allows}
-use Rattle.model.proofs.Figures.{held-and-free}
-use Rattle.model.proofs.Opening.{opened-sound}
+use Rattle.model.proofs.Figures.{held_and_free}
+use Rattle.model.proofs.Opening.{opened_sound}
 use Rattle.model.proofs.Sound.{Sound}
-use Rattle.model.proofs.Spans.{least-swept}
-use Rattle.model.proofs.Steps.{next-sound, created-next, grown-next}
+use Rattle.model.proofs.Spans.{least_swept}
+use Rattle.model.proofs.Steps.{next_sound, created_next, grown_next}
 
 -- one line, where the call leads to v
-line-is : (w v : World) (c : Call) (cs : List Call) (a : Answer (Option ℕ)) (h f : ℕ) (ls : List Line)
+line_is : (w v : World) (c : Call) (cs : List Call) (a : Answer (Option ℕ)) (h f : ℕ) (ls : List Line)
     → answer_to w c ≡ a → next w c ≡ v → held v ≡ h → free v ≡ f → lines_of v cs ≡ ls → lines_of w (c ∷ cs) ≡ line (refusal_shown a) (at_shown a) h f ∷ ls
 unfolding lines_of
-line-is w v c cs a h f ls ea ev eh ef el = rw (ea, ev, eh, ef, el)
+line_is w v c cs a h f ls ea ev eh ef el = rw (ea, ev, eh, ef, el)
 
 -- free bytes from those that are held
-free-is : (w : World) → Sound w → (f : ℕ) → w.limits.file_len - w.limits.table_end ≡ held w + f → free w ≡ f
-free-is w s f e = let h = held-and-free w s in omega arith
+free_is : (w : World) → Sound w → (f : ℕ) → w.limits.file_len - w.limits.table_end ≡ held w + f → free w ≡ f
+free_is w s f e = let h = held_and_free w s in omega arith
 
 -- ---- the worlds of the listing
 
@@ -61,36 +61,36 @@ unfolding open_refusal lists_fail_in logs_fail_in length_fails shared marked mar
 opens = refl
 
 s0 : Sound w0
-s0 = opened-sound opening opens
+s0 = opened_sound opening opens
 
 place0 : least_free w0 8192 ≡ some 8192
 unfolding each_record footprints sorted insert precedes swept first_fit allows skipped place_in up_to end_of
-place0 = least-swept w0 s0 8192 (omega arith)
+place0 = least_swept w0 s0 8192 (omega arith)
 
 step1 : (answer_to w0 (create 1 7 main_a) ≡ accepted (some 8192)) × (next w0 (create 1 7 main_a) ≡ w1)
 unfolding first refuse known has_key named tag_full cap_fails has_row rows_for each_record any highest fits cap_allows keyed
-step1 = created-next w0 1 7 main_a 8192 refl place0
+step1 = created_next w0 1 7 main_a 8192 refl place0
 
 s1 : Sound w1
-s1 = subst Sound step1.1 (next-sound w0 s0 (create 1 7 main_a))
+s1 = subst Sound step1.1 (next_sound w0 s0 (create 1 7 main_a))
 
 place1 : least_free w1 65536 ≡ some 16384
 unfolding each_record footprints sorted insert precedes swept first_fit allows skipped place_in up_to end_of
-place1 = least-swept w1 s1 65536 (omega arith)
+place1 = least_swept w1 s1 65536 (omega arith)
 
 step2 : (answer_to w1 (grow 1) ≡ accepted (some 16384)) × (next w1 (grow 1) ≡ w2)
 unfolding first refuse known has_key cap_fails rows_for each_record any fits cap_allows keyed put_keyed kind_code step keep sum
-step2 = grown-next w1 1 16384 refl place1
+step2 = grown_next w1 1 16384 refl place1
 
 s2 : Sound w2
-s2 = subst Sound step2.1 (next-sound w1 s1 (grow 1))
+s2 = subst Sound step2.1 (next_sound w1 s1 (grow 1))
 
 step3 : (answer_to w2 (publish 1 65536) ≡ accepted none) × (next w2 (publish 1 65536) ≡ w3)
 unfolding answer refusal_to byte_for next accept first refuse known has_key each_record any on_region keyed step sum
 step3 = (refl, refl)
 
 s3 : Sound w3
-s3 = subst Sound step3.1 (next-sound w2 s2 (publish 1 65536))
+s3 = subst Sound step3.1 (next_sound w2 s2 (publish 1 65536))
 
 step4 : (answer_to w3 (locate 1 65535 1) ≡ accepted (some 81919)) × (next w3 (locate 1 65535 1) ≡ w3)
 unfolding answer refusal_to byte_for next accept first refuse known has_key each_record any on_region keyed step not_empty joined_to joined runs_from last_at
@@ -108,12 +108,12 @@ unfolding sum each_record on_region keyed step lines_of
 listing =
     record {
       open-refusal = opens;
-      open-held = refl;
-      open_free = free-is w0 s0 98304 refl;
+      open_held = refl;
+      open_free = free_is w0 s0 98304 refl;
       lines =
-          line-is w0 w1 _ (grow 1 ∷ publish 1 65536 ∷ located) _ 8192 90112 _ step1.0 step1.1 refl (free-is w1 s1 90112 refl)
-          (line-is w1 w2 _ (publish 1 65536 ∷ located) _ 73728 24576 _ step2.0 step2.1 refl (free-is w2 s2 24576 refl)
-          (line-is w2 w3 _ located _ 73728 24576 _ step3.0 step3.1 refl (free-is w3 s3 24576 refl)
-          (line-is w3 w3 _ (locate 1 65535 2 ∷ []) _ 73728 24576 _ step4.0 step4.1 refl (free-is w3 s3 24576 refl)
-          (line-is w3 w3 _ [] _ 73728 24576 [] step5.0 step5.1 refl (free-is w3 s3 24576 refl) refl))));
+          line_is w0 w1 _ (grow 1 ∷ publish 1 65536 ∷ located) _ 8192 90112 _ step1.0 step1.1 refl (free_is w1 s1 90112 refl)
+          (line_is w1 w2 _ (publish 1 65536 ∷ located) _ 73728 24576 _ step2.0 step2.1 refl (free_is w2 s2 24576 refl)
+          (line_is w2 w3 _ located _ 73728 24576 _ step3.0 step3.1 refl (free_is w3 s3 24576 refl)
+          (line_is w3 w3 _ (locate 1 65535 2 ∷ []) _ 73728 24576 _ step4.0 step4.1 refl (free_is w3 s3 24576 refl)
+          (line_is w3 w3 _ [] _ 73728 24576 [] step5.0 step5.1 refl (free_is w3 s3 24576 refl) refl))));
     }

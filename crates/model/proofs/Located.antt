@@ -15,24 +15,24 @@ use Rattle.numbers.specs.Refusals.{accepted, refused, refuse, first}
 use Rattle.numbers.specs.Sums.{top}
 use Rattle.regionmap.specs.Map.{run_of}
 use Rattle.runs.specs.Runs.{Run, runs_of, byte_of, run_byte}
-use Rattle.model.proofs.Figures.{capacity-most}
-use Rattle.model.proofs.Regions.{known-true, all-region}
+use Rattle.model.proofs.Figures.{capacity_most}
+use Rattle.model.proofs.Regions.{known_true, all_region}
 use Rattle.model.proofs.Sound.{Regular, Sound}
-use Rattle.numbers.proofs.Answers.{answer-number, answer-value, not-both}
-use Rattle.numbers.proofs.Cases.{by-lt}
-use Rattle.numbers.proofs.Lists.{all-imp}
-use Rattle.regionmap.proofs.ByExtents.{neighbours, no-neighbours, reaches}
+use Rattle.numbers.proofs.Answers.{answer_number, answer_value, not_both}
+use Rattle.numbers.proofs.Cases.{by_lt}
+use Rattle.numbers.proofs.Lists.{all_imp}
+use Rattle.regionmap.proofs.ByExtents.{neighbours, no_neighbours, reaches}
 use Rattle.regionmap.proofs.Bytes.{run_only}
-use Rattle.regionmap.proofs.Extents.{runs-laid}
+use Rattle.regionmap.proofs.Extents.{runs_laid}
 use Rattle.runs.proofs.Bytes.{Ends}
-use Rattle.runs.proofs.Positions.{in-one-run}
+use Rattle.runs.proofs.Positions.{in_one_run}
 
 -- the run of a position gives the byte of the extents laid end to end
 module _ (xs : List Range) (whole : total xs ≤ top) (p : ℕ) (inside : p < total xs) where
   pub run-byte : run_byte (run_of (runs_of xs) p) p ≡ byte_of xs p
   run-byte =
-      let o = in-one-run xs p (omega arith) in
-      ap (λ (r : Run). run_byte r p) (sym (run_only (runs_of xs) (total xs) p o.place (runs-laid xs whole) o.inside o.holds)) ∙ o.byte
+      let o = in_one_run xs p (omega arith) in
+      ap (λ (r : Run). run_byte r p) (sym (run_only (runs_of xs) (total xs) p o.place (runs_laid xs whole) o.inside o.holds)) ∙ o.byte
 
 -- Two neighbouring positions of a range have bytes that are no neighbours.
 pub record Jump (xs : List Range) (p n : ℕ) : Type 0 where
@@ -44,21 +44,21 @@ pub record Jump (xs : List Range) (p n : ℕ) : Type 0 where
 -- ---- a region's extents
 
 module _ (w : World) (s : Sound w) (id : ℕ) (k : HasKey id_of id w.regions) where
-  pub region-regular : Regular w.limits (region_in w id)
-  region-regular = all-region (Regular w.limits) id w.regions k s.regular
+  pub region_regular : Regular w.limits (region_in w id)
+  region_regular = all_region (Regular w.limits) id w.regions k s.regular
 
   -- none passes the end of the container
-  pub region-ends : Ends (region_in w id).extents
-  region-ends =
-      let q = region-regular in
-      all-imp (Within (region_in w id).span-start (region_in w id).span-end) (λ (x : Range). x.offset + x.len ≤ top)
+  pub region_ends : Ends (region_in w id).extents
+  region_ends =
+      let q = region_regular in
+      all_imp (Within (region_in w id).span-start (region_in w id).span-end) (λ (x : Range). x.offset + x.len ≤ top)
       (λ x i. omega (arith, i.upto, q.file, s.container.file)) (region_in w id).extents q.inside.1.1
 
 -- ---- the answer
 
 module _ (w : World) (s : Sound w) (id : ℕ) (k : known w id ≡ true) (p n : ℕ) where
   h : HasKey id_of id w.regions
-  h = known-true w id k
+  h = known_true w id k
 
   abbrev r : Region
   r = region_in w id
@@ -67,55 +67,55 @@ module _ (w : World) (s : Sound w) (id : ℕ) (k : known w id ≡ true) (p n : �
   xs = r.extents
 
   whole : total xs ≤ top
-  whole = capacity-most w s id h
+  whole = capacity_most w s id h
 
   size : r.published ≤ total xs
-  size = (region-regular w s id h).size
+  size = (region_regular w s id h).size
 
   -- 23 where the range passes the published length
-  pub past-data : r.published < p + n → answer_to w (locate id p n) ≡ refused 23
+  pub past_data : r.published < p + n → answer_to w (locate id p n) ≡ refused 23
   unfolding refusal_to first refuse
-  past-data l = let e : refusal_to w (locate id p n) ≡ 23 = simp (k, lt-ltb _ _ l) in rw e (answer-number 23 _ (λ z. omega arith))
+  past_data l = let e : refusal_to w (locate id p n) ≡ 23 = simp (k, lt-ltb _ _ l) in rw e (answer_number 23 _ (λ z. omega arith))
 
   module _ (l : p + n ≤ r.published) where
     abbrev reach : ℕ
     reach = (run_at r p).start + (run_at r p).len
 
-    past-run : reach < p + n → answer_to w (locate id p n) ≡ refused 24
+    past_run : reach < p + n → answer_to w (locate id p n) ≡ refused 24
     unfolding refusal_to first refuse
-    past-run m = let e : refusal_to w (locate id p n) ≡ 24 = simp (k, le-ltb _ _ l, lt-ltb _ _ m) in rw e (answer-number 24 _ (λ z. omega arith))
+    past_run m = let e : refusal_to w (locate id p n) ≡ 24 = simp (k, le-ltb _ _ l, lt-ltb _ _ m) in rw e (answer_number 24 _ (λ z. omega arith))
 
-    in-run : p + n ≤ reach → answer_to w (locate id p n) ≡ accepted (some (run_byte (run_at r p) p))
+    in_run : p + n ≤ reach → answer_to w (locate id p n) ≡ accepted (some (run_byte (run_at r p) p))
     unfolding refusal_to first refuse byte_for
-    in-run m = let e : refusal_to w (locate id p n) ≡ 0 = simp (k, le-ltb _ _ l, le-ltb _ _ m) in answer-value _ _ e
+    in_run m = let e : refusal_to w (locate id p n) ≡ 0 = simp (k, le-ltb _ _ l, le-ltb _ _ m) in answer_value _ _ e
 
     -- 24 exactly where neighbours of the range have bytes that are no neighbours, else the byte of its first position
-    pub jump-refused : Jump xs p n → answer_to w (locate id p n) ≡ refused 24
-    jump-refused j =
-        by-lt reach (p + n) past-run
+    pub jump_refused : Jump xs p n → answer_to w (locate id p n) ≡ refused 24
+    jump_refused j =
+        by_lt reach (p + n) past_run
         (λ m.
         let a = j.from in
         let b = j.upto in
-        absurd (j.apart (neighbours xs (region-ends w s id h) whole p (omega (arith, size)) j.at a (omega arith) (omega (arith, size)))))
+        absurd (j.apart (neighbours xs (region_ends w s id h) whole p (omega (arith, size)) j.at a (omega arith) (omega (arith, size)))))
 
-    pub refused-jump : answer_to w (locate id p n) ≡ refused 24 → Jump xs p n
-    refused-jump e =
-        by-lt reach (p + n)
+    pub refused_jump : answer_to w (locate id p n) ≡ refused 24 → Jump xs p n
+    refused_jump e =
+        by_lt reach (p + n)
         (λ m.
-        by-lt p (total xs)
+        by_lt p (total xs)
         (λ i.
-        let j = no-neighbours xs (region-ends w s id h) whole p i n (omega (arith, size)) m in
+        let j = no_neighbours xs (region_ends w s id h) whole p i n (omega (arith, size)) m in
         record { at = j.0; from = j.1; upto = j.2; apart = j.3 })
-        (λ i. let u = reaches xs (region-ends w s id h) whole p (omega (arith, size)) in absurd (omega (arith, size))))
-        (λ m. absurd (not-both _ 24 (sym (in-run m) ∙ e)))
+        (λ i. let u = reaches xs (region_ends w s id h) whole p (omega (arith, size)) in absurd (omega (arith, size))))
+        (λ m. absurd (not_both _ 24 (sym (in_run m) ∙ e)))
 
     pub answered : (Jump xs p n → ⊥) → answer_to w (locate id p n) ≡ accepted (some (run_byte (run_at r p) p))
-    answered d = by-lt reach (p + n) (λ m. absurd (d (refused-jump (past-run m)))) in-run
+    answered d = by_lt reach (p + n) (λ m. absurd (d (refused_jump (past_run m)))) in_run
 
-    pub located-at : p < total xs → (Jump xs p n → ⊥) → answer_to w (locate id p n) ≡ accepted (some (byte_of xs p))
-    located-at i d = answered d ∙ ap (λ (b : ℕ). accepted (some b)) (run-byte xs whole p i)
+    pub located_at : p < total xs → (Jump xs p n → ⊥) → answer_to w (locate id p n) ≡ accepted (some (byte_of xs p))
+    located_at i d = answered d ∙ ap (λ (b : ℕ). accepted (some b)) (run-byte xs whole p i)
 
 -- "`locate` of length 0 at the data's end is answered", and so is every other of length 0
-pub none-answered : (w : World) → Sound w → (id : ℕ) → known w id ≡ true → (p : ℕ) → p ≤ (region_in w id).published
+pub none_answered : (w : World) → Sound w → (id : ℕ) → known w id ≡ true → (p : ℕ) → p ≤ (region_in w id).published
     → answer_to w (locate id p 0) ≡ accepted (some (run_byte (run_at (region_in w id) p) p))
-none-answered w s id k p l = answered w s id k p 0 (omega arith) (λ j. omega (arith, j.from, j.upto))
+none_answered w s id k p l = answered w s id k p 0 (omega arith) (λ j. omega (arith, j.from, j.upto))

@@ -21,16 +21,16 @@ use Rattle.numbers.specs.Range.{Range, Disjoint, Within}
 use Rattle.numbers.specs.Sums.{sum}
 use Rattle.settle.specs.Inner.{no_region}
 use Rattle.settle.specs.Settle.{overlapped, renamed, mark_of, marks_of}
-use Rattle.footprint.proofs.Passed.{Logs, Inside, logs-pass as own-logs-pass}
-use Rattle.footprint.proofs.Regular.{accepted-regular, logs-fine as own-logs-fine}
-use Rattle.model.proofs.Rows.{with-order, with-own, with-others}
+use Rattle.footprint.proofs.Passed.{Logs, Inside, logs_pass as own-logs-pass}
+use Rattle.footprint.proofs.Regular.{accepted_regular, logs_fine as own-logs-fine}
+use Rattle.model.proofs.Rows.{with_order, with_own, with_others}
 use Rattle.model.proofs.Sound.{Regular, Sound}
 use Rattle.numbers.proofs.Cases.{or-false}
-use Rattle.numbers.proofs.Keyed.{put-least}
-use Rattle.numbers.proofs.Lists.{all-at, all_of, all-imp, all_both, map-all, any_false, of_none, mapped_at, at-distinct, distinct-at}
-use Rattle.numbers.proofs.Refusals.{first-none, none_first, pass-none, refuse-none, first-all}
-use Rattle.settle.proofs.Marking.{marks-length, mark-at}
-use Rattle.settle.proofs.Unmarked.{ranges_of, NamesDiffer, none-superseded, marks-none, none-marks}
+use Rattle.numbers.proofs.Keyed.{put_least}
+use Rattle.numbers.proofs.Lists.{all_at, all_of, all_imp, all_both, map_all, any_false, of_none, mapped_at, at_distinct, distinct_at}
+use Rattle.numbers.proofs.Refusals.{first_none, none_first, pass_none, refuse_none, first_all}
+use Rattle.settle.proofs.Marking.{marks_length, mark_at}
+use Rattle.settle.proofs.Unmarked.{ranges_of, NamesDiffer, none_superseded, marks_none, none_marks}
 use Rattle.settle.specs.Regions as settling
 
 abbrev pub count_of : Record → ℕ
@@ -42,10 +42,10 @@ listed_by r = r.header.extent_count
 -- ---- each record and its header's extent list
 
 module _ {A : Type 0} (f : Record → List ℕ → A) where
-  pub each-length : (rs : List Record) (l : List ℕ) → length (each_record f rs l) ≡ length rs
+  pub each_length : (rs : List Record) (l : List ℕ) → length (each_record f rs l) ≡ length rs
   unfolding each_record
-  each-length [] l = refl
-  each-length (r ∷ rs) l = ap suc (each-length rs _)
+  each_length [] l = refl
+  each_length (r ∷ rs) l = ap suc (each_length rs _)
 
   -- at a place
   pub each_at : (rs : List Record) (l : List ℕ) (i : ℕ) (d : Record) (a : A) → i < length rs
@@ -80,11 +80,11 @@ module _ {A : Type 0} (f : Record → List ℕ → A) where
 module _ {A : Type 0} (f : A → ℕ) (n : ℕ) where
   none_above : (l : List A) → any (λ (x : A). ltb n (f x)) l ≡ false → All (λ (x : A). f x ≤ n) l
   none_above l e =
-      all-imp (λ (x : A). ltb n (f x) ≡ false) (λ (x : A). f x ≤ n) (λ x. ltb-false n (f x)) l (any_false (λ (x : A). ltb n (f x)) l e)
+      all_imp (λ (x : A). ltb n (f x) ≡ false) (λ (x : A). f x ≤ n) (λ x. ltb-false n (f x)) l (any_false (λ (x : A). ltb n (f x)) l e)
 
-  above-none : (l : List A) → All (λ (x : A). f x ≤ n) l → any (λ (x : A). ltb n (f x)) l ≡ false
-  above-none l a =
-      of_none (λ (x : A). ltb n (f x)) l (all-imp (λ (x : A). f x ≤ n) (λ (x : A). ltb n (f x) ≡ false) (λ x. le-ltb n (f x)) l a)
+  above_none : (l : List A) → All (λ (x : A). f x ≤ n) l → any (λ (x : A). ltb n (f x)) l ≡ false
+  above_none l a =
+      of_none (λ (x : A). ltb n (f x)) l (all_imp (λ (x : A). f x ≤ n) (λ (x : A). ltb n (f x) ≡ false) (λ x. le-ltb n (f x)) l a)
 
 pub record ListsIn (o : Opening) : Type 0 where
   pub few : length o.records ≤ 64
@@ -96,9 +96,9 @@ pub record ListsIn (o : Opening) : Type 0 where
   pub scratch : 16 * sum (map (λ (r : Record). count_of r + 2) o.records) ≤ o.scratch
   pub places : 64 ≤ o.places
 
-pub lists-pass : (o : Opening) → lists_fail_in o ≡ false → ListsIn o
+pub lists_pass : (o : Opening) → lists_fail_in o ≡ false → ListsIn o
 unfolding lists_fail_in
-lists-pass o e =
+lists_pass o e =
     let p = or-false _ _ e in
     let s = or-false _ _ p.0 in
     let l = or-false _ _ s.0 in
@@ -117,14 +117,14 @@ lists-pass o e =
       places = ltb-false _ _ p.1;
     }
 
-pub lists-fine : (o : Opening) → ListsIn o → lists_fail_in o ≡ false
+pub lists_fine : (o : Opening) → ListsIn o → lists_fail_in o ≡ false
 unfolding lists_fail_in
-lists-fine o l =
+lists_fine o l =
     simp (
       le-ltb _ _ l.few,
-      above-none count_of 60 o.records l.counts,
-      above-none (λ (r : Record). length r.name) 24 o.records l.names,
-      above-none listed_by _ o.records l.headers,
+      above_none count_of 60 o.records l.counts,
+      above_none (λ (r : Record). length r.name) 24 o.records l.names,
+      above_none listed_by _ o.records l.headers,
       l.even,
       eq-eqb _ _ l.listed,
       le-ltb _ _ l.scratch,
@@ -145,50 +145,50 @@ module _ (o : Opening) where
   abbrev OwnLogs : Record → Type 0
   OwnLogs r = Logs o.limits r.header
 
-  pub logs-pass : logs_fail_in o ≡ false → LogsIn o
+  pub logs_pass : logs_fail_in o ≡ false → LogsIn o
   unfolding logs_fail_in
-  logs-pass e =
+  logs_pass e =
       let a = or-false _ _ e in
       let b = or-false _ _ a.0 in
       record {
         low = ltb-false _ _ b.0;
         high = ltb-false _ _ b.1;
         own =
-            all-imp (λ (r : Record). log_fails r ≡ false) OwnLogs (λ r. own-logs-pass o.limits r.header) o.records
+            all_imp (λ (r : Record). log_fails r ≡ false) OwnLogs (λ r. own-logs-pass o.limits r.header) o.records
             (any_false log_fails o.records a.1);
       }
 
-  pub own-logs : LogsIn o → All (λ (r : Record). log_fails r ≡ false) o.records
-  own-logs l =
-      all-imp OwnLogs (λ (r : Record). log_fails r ≡ false) (λ r. own-logs-fine o.limits r.entry r.header []) o.records l.own
+  pub own_logs : LogsIn o → All (λ (r : Record). log_fails r ≡ false) o.records
+  own_logs l =
+      all_imp OwnLogs (λ (r : Record). log_fails r ≡ false) (λ r. own-logs-fine o.limits r.entry r.header []) o.records l.own
 
-  pub logs-fine : LogsIn o → logs_fail_in o ≡ false
+  pub logs_fine : LogsIn o → logs_fail_in o ≡ false
   unfolding logs_fail_in
-  logs-fine l = simp (le-ltb _ _ l.low, le-ltb _ _ l.high, of_none log_fails o.records (own-logs l))
+  logs_fine l = simp (le-ltb _ _ l.low, le-ltb _ _ l.high, of_none log_fails o.records (own_logs l))
 
 module _ (lim : Limits) where
-  pub length-pass : length_fails lim ≡ false → (lim.table_end ≤ lim.file_len) × (lim.file_len ≤ 2 ^ 63 - 1)
+  pub length_pass : length_fails lim ≡ false → (lim.table_end ≤ lim.file_len) × (lim.file_len ≤ 2 ^ 63 - 1)
   unfolding length_fails
-  length-pass e = let p = or-false _ _ e in (ltb-false _ _ p.0, ltb-false _ _ p.1)
+  length_pass e = let p = or-false _ _ e in (ltb-false _ _ p.0, ltb-false _ _ p.1)
 
-  pub length-fine : lim.table_end ≤ lim.file_len → lim.file_len ≤ 2 ^ 63 - 1 → length_fails lim ≡ false
+  pub length_fine : lim.table_end ≤ lim.file_len → lim.file_len ≤ 2 ^ 63 - 1 → length_fails lim ≡ false
   unfolding length_fails
-  length-fine t f = simp (le-ltb _ _ t, le-ltb _ _ f)
+  length_fine t f = simp (le-ltb _ _ t, le-ltb _ _ f)
 
 -- ---- 14: no two numbers are the same
 
-pub shared-distinct : (ns : List ℕ) → shared ns ≡ false → Distinct ns
+pub shared_distinct : (ns : List ℕ) → shared ns ≡ false → Distinct ns
 unfolding shared
-shared-distinct [] e = tt
-shared-distinct (n ∷ ns) e =
+shared_distinct [] e = tt
+shared_distinct (n ∷ ns) e =
     let s = or-false _ _ e in
-    (all-imp (λ (m : ℕ). eqb n m ≡ false) (λ (m : ℕ). n ≡ m → ⊥) (eqb-false n) ns (any_false (eqb n) ns s.0), shared-distinct ns s.1)
+    (all_imp (λ (m : ℕ). eqb n m ≡ false) (λ (m : ℕ). n ≡ m → ⊥) (eqb-false n) ns (any_false (eqb n) ns s.0), shared_distinct ns s.1)
 
-pub distinct-shared : (ns : List ℕ) → Distinct ns → shared ns ≡ false
+pub distinct_shared : (ns : List ℕ) → Distinct ns → shared ns ≡ false
 unfolding shared
-distinct-shared [] d = refl
-distinct-shared (n ∷ ns) d =
-    simp (of_none (eqb n) ns (all-imp (λ (m : ℕ). n ≡ m → ⊥) (λ (m : ℕ). eqb n m ≡ false) (ne_eqb n) ns d.0), distinct-shared ns d.1)
+distinct_shared [] d = refl
+distinct_shared (n ∷ ns) d =
+    simp (of_none (eqb n) ns (all_imp (λ (m : ℕ). n ≡ m → ⊥) (λ (m : ℕ). eqb n m ≡ false) (ne_eqb n) ns d.0), distinct_shared ns d.1)
 
 -- ---- 15: no two footprints meet, and no two names are the same
 
@@ -196,32 +196,32 @@ abbrev name_of : settling.Region → List ℕ
 name_of u = u.name
 
 module _ (us : List settling.Region) where
-  differ-names : NamesDiffer us → Distinct (map name_of us)
-  differ-names f =
-      at-distinct (map name_of us) []
+  differ_names : NamesDiffer us → Distinct (map name_of us)
+  differ_names f =
+      at_distinct (map name_of us) []
       (λ i j l h e.
       let n = length-map us name_of in
       let a : i < length us = omega arith in
       let b : j < length us = omega arith in
       f i j a b (λ z. omega arith) (sym (mapped_at name_of us i no_region [] a) ∙ e ∙ mapped_at name_of us j no_region [] b))
 
-  names-differ : Distinct (map name_of us) → NamesDiffer us
-  names-differ d i j a b n e =
+  names_differ : Distinct (map name_of us) → NamesDiffer us
+  names_differ d i j a b n e =
       let l = length-map us name_of in
-      distinct-at (map name_of us) [] i j d (omega arith) (omega arith) n
+      distinct_at (map name_of us) [] i j d (omega arith) (omega arith) n
       (mapped_at name_of us i no_region [] a ∙ e ∙ sym (mapped_at name_of us j no_region [] b))
 
-two-bits : (o r : Bool) → mark_of o r false % 4 ≡ 0 → mark_of o r false ≡ 0
-two-bits true true z = absurd (omega arith)
-two-bits true false z = absurd (omega arith)
-two-bits false true z = absurd (omega arith)
-two-bits false false z = refl
+two_bits : (o r : Bool) → mark_of o r false % 4 ≡ 0 → mark_of o r false ≡ 0
+two_bits true true z = absurd (omega arith)
+two_bits true false z = absurd (omega arith)
+two_bits false true z = absurd (omega arith)
+two_bits false false z = refl
 
 module _ (lim : Limits) where
-  usable-ranges : (rs : List Region) → ranges_of (map (usable lim) rs) ≡ footprints lim rs
+  usable_ranges : (rs : List Region) → ranges_of (map (usable lim) rs) ≡ footprints lim rs
   unfolding ranges_of footprints
-  usable-ranges [] = refl
-  usable-ranges (r ∷ rs) = ap (λ (l : List Range). footprint lim r ++ l) (usable-ranges rs)
+  usable_ranges [] = refl
+  usable_ranges (r ∷ rs) = ap (λ (l : List Range). footprint lim r ++ l) (usable_ranges rs)
 
   module _ (rs : List Region) where
     abbrev all : List settling.Region
@@ -230,8 +230,8 @@ module _ (lim : Limits) where
     abbrev names : List (List ℕ)
     names = map (λ (r : Region). r.name) rs
 
-    usable-names : map name_of all ≡ names
-    usable-names = map-map name_of (usable lim) rs
+    usable_names : map name_of all ≡ names
+    usable_names = map-map name_of (usable lim) rs
 
     abbrev spoils : ℕ → Bool
     spoils m = not (eqb (m % 4) 0)
@@ -240,27 +240,27 @@ module _ (lim : Limits) where
     unmarked : marked lim rs ≡ false → (i : ℕ) → i < length all → get_or (marks_of all []) i 0 ≡ 0
     unfolding marked
     unmarked e i h =
-        let n = marks-length all [] in
-        let z = all-at (λ (m : ℕ). spoils m ≡ false) (marks_of all []) i 0 (any_false spoils (marks_of all []) e) (omega arith) in
+        let n = marks_length all [] in
+        let z = all_at (λ (m : ℕ). spoils m ≡ false) (marks_of all []) i 0 (any_false spoils (marks_of all []) e) (omega arith) in
         let o = overlapped all i in
         let r = renamed all [] (get_or all i no_region) in
-        let m = mark-at all [] i h ∙ ap (mark_of o r) (none-superseded all i) in
-        m ∙ two-bits o r (ap (λ (k : ℕ). k % 4) (sym m) ∙ eqb-true _ _ (not-false _ z))
+        let m = mark_at all [] i h ∙ ap (mark_of o r) (none_superseded all i) in
+        m ∙ two_bits o r (ap (λ (k : ℕ). k % 4) (sym m) ∙ eqb-true _ _ (not-false _ z))
 
-    pub marked-apart : marked lim rs ≡ false → Disjoint (footprints lim rs) × Distinct names
-    marked-apart e =
-        let p = marks-none all (unmarked e) in
-        (subst Disjoint (usable-ranges rs) p.0, subst Distinct usable-names (differ-names all p.1))
+    pub marked_apart : marked lim rs ≡ false → Disjoint (footprints lim rs) × Distinct names
+    marked_apart e =
+        let p = marks_none all (unmarked e) in
+        (subst Disjoint (usable_ranges rs) p.0, subst Distinct usable_names (differ_names all p.1))
 
-    pub apart-marked : Disjoint (footprints lim rs) → Distinct names → marked lim rs ≡ false
+    pub apart_marked : Disjoint (footprints lim rs) → Distinct names → marked lim rs ≡ false
     unfolding marked
-    apart-marked d n =
+    apart_marked d n =
         of_none spoils (marks_of all [])
         (all_of (λ (m : ℕ). spoils m ≡ false) (marks_of all []) 0
         (λ i h.
-        let k = marks-length all [] in
-        let n' = names-differ all (subst Distinct (sym usable-names) n) in
-        ap spoils (none-marks all (subst Disjoint (sym (usable-ranges rs)) d) n' i (omega arith))))
+        let k = marks_length all [] in
+        let n' = names_differ all (subst Distinct (sym usable_names) n) in
+        ap spoils (none_marks all (subst Disjoint (sym (usable_ranges rs)) d) n' i (omega arith))))
 
 -- ---- all tests
 
@@ -280,49 +280,49 @@ pub record Fine (o : Opening) : Type 0 where
   pub names : Distinct (map (λ (r : Record). r.name) o.records)
 
 module _ (o : Opening) where
-  pub regions-map : {A : Type 0} (g : Region → A) (h : Record → A) → ((r : Record) (xs : List ℕ) → g (region_from r xs) ≡ h r)
+  pub regions_map : {A : Type 0} (g : Region → A) (h : Record → A) → ((r : Record) (xs : List ℕ) → g (region_from r xs) ≡ h r)
       → map g (regions_from o) ≡ map h o.records
-  regions-map g h e = each_map region_from g h e o.records o.extents
+  regions_map g h e = each_map region_from g h e o.records o.extents
 
-  names-from : map (λ (r : Region). r.name) (regions_from o) ≡ map (λ (r : Record). r.name) o.records
-  names-from = regions-map (λ (r : Region). r.name) (λ (r : Record). r.name) (λ r xs. refl)
+  names_from : map (λ (r : Region). r.name) (regions_from o) ≡ map (λ (r : Record). r.name) o.records
+  names_from = regions_map (λ (r : Region). r.name) (λ (r : Record). r.name) (λ r xs. refl)
 
-  pub accepted-fine : open_refusal o ≡ 0 → Fine o
+  pub accepted_fine : open_refusal o ≡ 0 → Fine o
   unfolding open_refusal
-  accepted-fine z =
-      let t1 = first-none _ _ z in
-      let t2 = first-none _ _ t1.1 in
-      let t3 = first-none _ _ t2.1 in
-      let t4 = first-none _ _ t3.1 in
-      let t14 = first-none _ _ t4.1 in
-      let t15 = first-none _ _ t14.1 in
-      let l = length-pass o.limits (refuse-none 3 _ (omega arith) t3.0) in
-      let m = marked-apart o.limits (regions_from o) (refuse-none 15 _ (omega arith) t15.0) in
+  accepted_fine z =
+      let t1 = first_none _ _ z in
+      let t2 = first_none _ _ t1.1 in
+      let t3 = first_none _ _ t2.1 in
+      let t4 = first_none _ _ t3.1 in
+      let t14 = first_none _ _ t4.1 in
+      let t15 = first_none _ _ t14.1 in
+      let l = length_pass o.limits (refuse_none 3 _ (omega arith) t3.0) in
+      let m = marked_apart o.limits (regions_from o) (refuse_none 15 _ (omega arith) t15.0) in
       record {
-        lists = lists-pass o (refuse-none 1 _ (omega arith) t1.0);
-        logs = logs-pass o (refuse-none 2 _ (omega arith) t2.0);
+        lists = lists_pass o (refuse_none 1 _ (omega arith) t1.0);
+        logs = logs_pass o (refuse_none 2 _ (omega arith) t2.0);
         table = l.0;
         file = l.1;
-        checked = first-all (checks o) t4.0;
-        numbers = shared-distinct _ (refuse-none 14 _ (omega arith) t14.0);
+        checked = first_all (checks o) t4.0;
+        numbers = shared_distinct _ (refuse_none 14 _ (omega arith) t14.0);
         apart = m.0;
-        names = subst Distinct names-from m.1;
+        names = subst Distinct names_from m.1;
       }
 
-  pub fine-accepted : Fine o → open_refusal o ≡ 0
+  pub fine_accepted : Fine o → open_refusal o ≡ 0
   unfolding open_refusal
-  fine-accepted f =
+  fine_accepted f =
       none_first _ (
-        pass-none 1 _ (lists-fine o f.lists),
+        pass_none 1 _ (lists_fine o f.lists),
         (
-          pass-none 2 _ (logs-fine o f.logs),
+          pass_none 2 _ (logs_fine o f.logs),
           (
-            pass-none 3 _ (length-fine o.limits f.table f.file),
+            pass_none 3 _ (length_fine o.limits f.table f.file),
             (
               none_first _ f.checked,
               (
-                pass-none 14 _ (distinct-shared _ f.numbers),
-                (pass-none 15 _ (apart-marked o.limits (regions_from o) f.apart (subst Distinct (sym names-from) f.names)), tt),
+                pass_none 14 _ (distinct_shared _ f.numbers),
+                (pass_none 15 _ (apart_marked o.limits (regions_from o) f.apart (subst Distinct (sym names_from) f.names)), tt),
               ),
             ),
           ),
@@ -336,12 +336,12 @@ module _ (lim : Limits) (r : Record) (xs : List ℕ) where
   abbrev InSpan : Range → Type 0
   InSpan x = Within r.entry.span_start r.entry.span_end x
 
-  extents-within : All (Inside lim r.entry) (committed r.entry xs) → All InSpan (committed r.entry xs)
-  extents-within a = all-imp (Inside lim r.entry) InSpan (λ x i. record { from = i.from; upto = i.upto }) (committed r.entry xs) a
+  extents_within : All (Inside lim r.entry) (committed r.entry xs) → All InSpan (committed r.entry xs)
+  extents_within a = all_imp (Inside lim r.entry) InSpan (λ x i. record { from = i.from; upto = i.upto }) (committed r.entry xs) a
 
-  pub opened-regular : length r.name ≤ 24 → count_of r ≤ 60 → record_refusal lim r xs ≡ 0 → Regular lim (region_from r xs)
-  opened-regular n c z =
-      let g = accepted-regular lim r.number r.entry r.header xs (2 * (count_of r + 2)) z in
+  pub opened_regular : length r.name ≤ 24 → count_of r ≤ 60 → record_refusal lim r xs ≡ 0 → Regular lim (region_from r xs)
+  opened_regular n c z =
+      let g = accepted_regular lim r.number r.entry r.header xs (2 * (count_of r + 2)) z in
       let t = g.entry in
       let k = length-take (count_of r) (pairs xs) in
       record {
@@ -352,35 +352,35 @@ module _ (lim : Limits) (r : Record) (xs : List ℕ) where
         second = t.b.aligned;
         table = t.table;
         file = t.file;
-        inside = (record { from = t.a.from; upto = t.a.upto }, (record { from = t.b.from; upto = t.b.upto }, extents-within g.inside));
+        inside = (record { from = t.a.from; upto = t.a.upto }, (record { from = t.b.from; upto = t.b.upto }, extents_within g.inside));
         some = t.some;
         size = omega (arith, t.size, g.capacity);
         multiple = g.agreed.multiple;
       }
 
-pub highest-above : (ns : List ℕ) → All (λ (n : ℕ). n ≤ highest ns) ns
+pub highest_above : (ns : List ℕ) → All (λ (n : ℕ). n ≤ highest ns) ns
 unfolding highest
-highest-above [] = tt
-highest-above (n ∷ ns) =
-    (omega arith, all-imp (λ (m : ℕ). m ≤ highest ns) (λ (m : ℕ). m ≤ max n (highest ns)) (λ m h. omega arith) ns (highest-above ns))
+highest_above [] = tt
+highest_above (n ∷ ns) =
+    (omega arith, all_imp (λ (m : ℕ). m ≤ highest ns) (λ (m : ℕ). m ≤ max n (highest ns)) (λ m h. omega arith) ns (highest_above ns))
 
-pub rows-order : (ts : List ℕ) → InKeyOrder tag_of (rows_for ts)
+pub rows_order : (ts : List ℕ) → InKeyOrder tag_of (rows_for ts)
 unfolding rows_for
-rows-order [] = tt
-rows-order (t ∷ ts) = with-order t (rows_for ts) (rows-order ts)
+rows_order [] = tt
+rows_order (t ∷ ts) = with_order t (rows_for ts) (rows_order ts)
 
 pub rows_few : (ts : List ℕ) → length (rows_for ts) ≤ length ts
 unfolding rows_for
 rows_few [] = omega arith
-rows_few (t ∷ ts) = let h = rows_few ts in let k = put-least tag_of (row_of t (rows_for ts)) (rows_for ts) in omega arith
+rows_few (t ∷ ts) = let h = rows_few ts in let k = put_least tag_of (row_of t (rows_for ts)) (rows_for ts) in omega arith
 
 pub rows_all : (ts : List ℕ) → All (λ (t : ℕ). HasKey tag_of t (rows_for ts)) ts
 unfolding rows_for
 rows_all [] = tt
 rows_all (t ∷ ts) =
     let rows = rows_for ts in
-    let a = all-imp (λ (n : ℕ). HasKey tag_of n rows) (λ (n : ℕ). HasKey tag_of n (with_tag t rows)) (with-others t rows) ts (rows_all ts) in
-    (with-own t rows, a)
+    let a = all_imp (λ (n : ℕ). HasKey tag_of n rows) (λ (n : ℕ). HasKey tag_of n (with_tag t rows)) (with_others t rows) ts (rows_all ts) in
+    (with_own t rows, a)
 
 -- ---- an accepted open starts a sound world
 
@@ -398,14 +398,14 @@ module _ (o : Opening) where
   seqs = map (λ (r : Record). r.entry.footprint_seq) rs
 
   -- what is true of what a record says is true of its region
-  regions-all : {A : Type 0} (P : A → Type 0) (g : Region → A) (h : Record → A) → ((r : Record) (xs : List ℕ) → g (region_from r xs) ≡ h r)
+  regions_all : {A : Type 0} (P : A → Type 0) (g : Region → A) (h : Record → A) → ((r : Record) (xs : List ℕ) → g (region_from r xs) ≡ h r)
       → All P (map h rs) → All (λ (r : Region). P (g r)) (regions_from o)
-  regions-all P g h e a = map-all P g (regions_from o) (subst (All P) (sym (regions-map o g h e)) a)
+  regions_all P g h e a = map_all P g (regions_from o) (subst (All P) (sym (regions_map o g h e)) a)
 
-  pub fine-sound : Fine o → Sound (opened o)
-  fine-sound f =
+  pub fine_sound : Fine o → Sound (opened o)
+  fine_sound f =
       let l = f.lists in
-      let n = each-length region_from rs o.extents in
+      let n = each_length region_from rs o.extents in
       let k = rows_few tags in
       let m = length-map rs (λ (r : Record). r.tag) in
       record {
@@ -413,23 +413,23 @@ module _ (o : Opening) where
         few = omega (arith, l.few);
         regular =
             each_both (record_refusal o.limits) region_from Short (λ (n : ℕ). n ≡ 0) (Regular o.limits)
-            (λ r xs p z. opened-regular o.limits r xs p.0 p.1 z)
+            (λ r xs p z. opened_regular o.limits r xs p.0 p.1 z)
             rs
             o.extents
             (all_both (λ (r : Record). length r.name ≤ 24) (λ (r : Record). count_of r ≤ 60) Short (λ r a b. (a, b)) rs l.names l.counts)
             f.checked;
-        numbers = subst Distinct (sym (regions-map o (λ (r : Region). r.number) (λ (r : Record). r.number) (λ r xs. refl))) f.numbers;
-        names = subst Distinct (sym (names-from o)) f.names;
+        numbers = subst Distinct (sym (regions_map o (λ (r : Region). r.number) (λ (r : Record). r.number) (λ r xs. refl))) f.numbers;
+        names = subst Distinct (sym (names_from o)) f.names;
         apart = f.apart;
         tagged =
-            regions-all (λ (t : ℕ). HasKey tag_of t (rows_for tags)) (λ (r : Region). r.tag) (λ (r : Record). r.tag) (λ r xs. refl)
+            regions_all (λ (t : ℕ). HasKey tag_of t (rows_for tags)) (λ (r : Region). r.tag) (λ (r : Record). r.tag) (λ r xs. refl)
             (rows_all tags);
         rows_few = omega (arith, l.few);
-        order = rows-order tags;
+        order = rows_order tags;
         seqs =
-            regions-all (λ (n : ℕ). n ≤ highest seqs) (λ (r : Region). r.seq) (λ (r : Record). r.entry.footprint_seq) (λ r xs. refl)
-            (highest-above seqs);
+            regions_all (λ (n : ℕ). n ≤ highest seqs) (λ (r : Region). r.seq) (λ (r : Record). r.entry.footprint_seq) (λ r xs. refl)
+            (highest_above seqs);
       }
 
-  pub opened-sound : open_refusal o ≡ 0 → Sound (opened o)
-  opened-sound z = fine-sound (accepted-fine o z)
+  pub opened_sound : open_refusal o ≡ 0 → Sound (opened o)
+  opened_sound z = fine_sound (accepted_fine o z)

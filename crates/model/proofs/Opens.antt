@@ -33,23 +33,23 @@ opens = (
     crossing = refl;
   },
   record {
-    accepted-one = refl;
+    accepted_one = refl;
     records = (refl, refl);
     count = (refl, refl);
-    header-count = (refl, refl);
+    header_count = (refl, refl);
     name = (refl, refl);
     odd = refl;
-    pair-too-many = refl;
+    pair_too_many = refl;
     scratch = refl;
     places = refl;
-    block-log = (refl, refl);
-    header-log = refl;
+    block_log = (refl, refl);
+    header_log = refl;
     length = (refl, refl);
     checks = (refl, refl);
     numbers = refl;
     kinds = refl;
     flags = refl;
-    not-ready = refl;
+    not_ready = refl;
     fewer = refl;
     one_more = (refl, refl);
     multiple = refl;
@@ -64,10 +64,10 @@ opens = (
   record {
     neither = refl;
     in-turn = (refl, refl);
-    over-all = (refl, refl);
+    over_all = (refl, refl);
     last = refl;
-    empty-log = refl;
-    empty-length = refl;
-    empty-accepted = (refl, refl);
+    empty_log = refl;
+    empty_length = refl;
+    empty_accepted = (refl, refl);
   },
 )

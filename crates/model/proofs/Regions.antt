@@ -16,20 +16,20 @@ use Rattle.numbers.specs.Keyed.{HasKey, keyed}
 use Rattle.numbers.specs.Lists.{All, keep, Distinct}
 use Rattle.numbers.specs.Range.{Range, range, total}
 use Rattle.numbers.specs.Sums.{sum}
-use Rattle.numbers.proofs.Cases.{by-eq}
-use Rattle.numbers.proofs.Keyed.{key-true, true-key, has-later}
-use Rattle.numbers.proofs.Lists.{all_append, all_left, all_right, all_map, map-all}
-use Rattle.numbers.proofs.Sums.{total-append}
+use Rattle.numbers.proofs.Cases.{by_eq}
+use Rattle.numbers.proofs.Keyed.{key_true, true_key, has_later}
+use Rattle.numbers.proofs.Lists.{all_append, all_left, all_right, all_map, map_all}
+use Rattle.numbers.proofs.Sums.{total_append}
 
 -- ---- known regions
 
-pub known-true : (w : World) (id : ℕ) → known w id ≡ true → HasKey id_of id w.regions
+pub known_true : (w : World) (id : ℕ) → known w id ≡ true → HasKey id_of id w.regions
 unfolding known
-known-true w id e = key-true id_of id w.regions e
+known_true w id e = key_true id_of id w.regions e
 
-pub true-known : (w : World) (id : ℕ) → HasKey id_of id w.regions → known w id ≡ true
+pub true_known : (w : World) (id : ℕ) → HasKey id_of id w.regions → known w id ≡ true
 unfolding known
-true-known w id h = true-key id_of id w.regions h
+true_known w id h = true_key id_of id w.regions h
 
 -- ---- where it stands
 
@@ -42,15 +42,15 @@ pub record Split (id : ℕ) (rs : List Region) : Type 0 where
   pub dropped : without id rs ≡ front ++ behind
 
 module _ (id : ℕ) (r : Region) (rs : List Region) where
-  split-here : r.number ≡ id → Split id (r ∷ rs)
+  split_here : r.number ≡ id → Split id (r ∷ rs)
   unfolding keyed on_region without
-  split-here e =
+  split_here e =
       let t = eq-eqb r.number id e in
       record { front = []; behind = rs; own = simp t e; is = simp t; changed = λ f. simp t; dropped = simp t }
 
-  split-later : (r.number ≡ id → ⊥) → Split id rs → Split id (r ∷ rs)
+  split_later : (r.number ≡ id → ⊥) → Split id rs → Split id (r ∷ rs)
   unfolding keyed on_region without
-  split-later d s =
+  split_later d s =
       let t = ne_eqb r.number id d in
       record {
         front = r ∷ s.front;
@@ -64,19 +64,19 @@ module _ (id : ℕ) (r : Region) (rs : List Region) where
 pub split : (id : ℕ) (rs : List Region) → HasKey id_of id rs → Split id rs
 split id [] h = absurd h
 split id (r ∷ rs) h =
-    by-eq r.number id (split-here id r rs) (λ d. split-later id r rs d (split id rs (has-later id_of id r rs d h)))
+    by_eq r.number id (split_here id r rs) (λ d. split_later id r rs d (split id rs (has_later id_of id r rs d h)))
 
 -- ---- what is true of every region
 
 module _ (P : Region → Type 0) where
-  pub all-region : (id : ℕ) (rs : List Region) → HasKey id_of id rs → All P rs → P (region_of id rs)
-  all-region id rs h a =
+  pub all_region : (id : ℕ) (rs : List Region) → HasKey id_of id rs → All P rs → P (region_of id rs)
+  all_region id rs h a =
       let s = split id rs h in
       (all_right P s.front (region_of id rs ∷ s.behind) (subst (All P) s.is a)).0
 
-  pub all-on : (id : ℕ) (f : Region → Region) (rs : List Region) → HasKey id_of id rs → (P (region_of id rs) → P (f (region_of id rs)))
+  pub all_on : (id : ℕ) (f : Region → Region) (rs : List Region) → HasKey id_of id rs → (P (region_of id rs) → P (f (region_of id rs)))
       → All P rs → All P (on_region id f rs)
-  all-on id f rs h g a =
+  all_on id f rs h g a =
       let s = split id rs h in
       let b : All P (s.front ++ (region_of id rs ∷ s.behind)) = subst (All P) s.is a in
       let c = all_right P s.front (region_of id rs ∷ s.behind) b in
@@ -86,7 +86,7 @@ module _ (P : Region → Type 0) where
   unfolding without
   all_without id [] a = tt
   all_without id (r ∷ rs) a =
-      by-eq r.number id (λ e. simp (eq-eqb _ _ e) a.1) (λ d. simp (ne_eqb _ _ d) (a.0, all_without id rs a.1))
+      by_eq r.number id (λ e. simp (eq-eqb _ _ e) a.1) (λ d. simp (ne_eqb _ _ d) (a.0, all_without id rs a.1))
 
 -- ---- fields that a change keeps
 
@@ -95,35 +95,35 @@ module _ {B : Type 0} (g : Region → B) (id : ℕ) where
   unfolding on_region
   map_on f k [] = refl
   map_on f k (r ∷ rs) =
-      by-eq r.number id (λ e. simp (eq-eqb _ _ e) (ap (λ (b : B). b ∷ map g rs) (k r)))
+      by_eq r.number id (λ e. simp (eq-eqb _ _ e) (ap (λ (b : B). b ∷ map g rs) (k r)))
       (λ d. simp (ne_eqb _ _ d) (ap (λ (l : List B). g r ∷ l) (map_on f k rs)))
 
   pub distinct_without : (rs : List Region) → Distinct (map g rs) → Distinct (map g (without id rs))
   unfolding without
   distinct_without [] d = tt
   distinct_without (r ∷ rs) d =
-      by-eq r.number id (λ e. simp (eq-eqb _ _ e) d.1)
+      by_eq r.number id (λ e. simp (eq-eqb _ _ e) d.1)
       (λ n.
       let P : B → Type 0 = λ y. g r ≡ y → ⊥ in
-      simp (ne_eqb _ _ n) (all_map P g (without id rs) (all_without (λ (x : Region). P (g x)) id rs (map-all P g rs d.0)), distinct_without rs d.1))
+      simp (ne_eqb _ _ n) (all_map P g (without id rs) (all_without (λ (x : Region). P (g x)) id rs (map_all P g rs d.0)), distinct_without rs d.1))
 
 -- ---- sums over the regions
 
 module _ (h : Region → ℕ) (id : ℕ) where
-  pub sum-on : (f : Region → Region) (rs : List Region) → HasKey id_of id rs
+  pub sum_on : (f : Region → Region) (rs : List Region) → HasKey id_of id rs
       → sum (map h (on_region id f rs)) + h (region_of id rs) ≡ sum (map h rs) + h (f (region_of id rs))
   unfolding keyed on_region sum
-  sum-on f [] k = absurd k
-  sum-on f (r ∷ rs) k =
-      by-eq r.number id (λ e. simp (eq-eqb _ _ e) (omega arith))
-      (λ d. let i = sum-on f rs (has-later id_of id r rs d k) in simp (ne_eqb _ _ d) (omega arith))
+  sum_on f [] k = absurd k
+  sum_on f (r ∷ rs) k =
+      by_eq r.number id (λ e. simp (eq-eqb _ _ e) (omega arith))
+      (λ d. let i = sum_on f rs (has_later id_of id r rs d k) in simp (ne_eqb _ _ d) (omega arith))
 
-  pub sum-without : (rs : List Region) → HasKey id_of id rs → sum (map h (without id rs)) + h (region_of id rs) ≡ sum (map h rs)
+  pub sum_without : (rs : List Region) → HasKey id_of id rs → sum (map h (without id rs)) + h (region_of id rs) ≡ sum (map h rs)
   unfolding keyed without sum
-  sum-without [] k = absurd k
-  sum-without (r ∷ rs) k =
-      by-eq r.number id (λ e. simp (eq-eqb _ _ e) (omega arith))
-      (λ d. let i = sum-without rs (has-later id_of id r rs d k) in simp (ne_eqb _ _ d) (omega arith))
+  sum_without [] k = absurd k
+  sum_without (r ∷ rs) k =
+      by_eq r.number id (λ e. simp (eq-eqb _ _ e) (omega arith))
+      (λ d. let i = sum_without rs (has_later id_of id r rs d k) in simp (ne_eqb _ _ d) (omega arith))
 
 -- n bytes count for the tag t where they are of that tag.
 abbrev pub if_tag : (tag t n : ℕ) → ℕ
@@ -134,91 +134,91 @@ pub sum_tag : (h : Region → ℕ) (t : ℕ) (rs : List Region) → sum (map h (
 unfolding keep sum
 sum_tag h t [] = refl
 sum_tag h t (r ∷ rs) =
-    let i = sum_tag h t rs in by-eq r.tag t (λ e. simp (eq-eqb _ _ e) (omega arith)) (λ d. simp (ne_eqb _ _ d) (omega arith))
+    let i = sum_tag h t rs in by_eq r.tag t (λ e. simp (eq-eqb _ _ e) (omega arith)) (λ d. simp (ne_eqb _ _ d) (omega arith))
 
 -- ---- footprints
 
-pub footprints-append : (lim : Limits) (rs qs : List Region) → footprints lim (rs ++ qs) ≡ footprints lim rs ++ footprints lim qs
+pub footprints_append : (lim : Limits) (rs qs : List Region) → footprints lim (rs ++ qs) ≡ footprints lim rs ++ footprints lim qs
 unfolding footprints
-footprints-append lim [] qs = refl
-footprints-append lim (r ∷ rs) qs =
-    ap (λ (l : List Range). footprint lim r ++ l) (footprints-append lim rs qs) ∙ sym (append_assoc (footprint lim r) (footprints lim rs) (footprints lim qs))
+footprints_append lim [] qs = refl
+footprints_append lim (r ∷ rs) qs =
+    ap (λ (l : List Range). footprint lim r ++ l) (footprints_append lim rs qs) ∙ sym (append_assoc (footprint lim r) (footprints lim rs) (footprints lim qs))
 
 -- in the middle of others
-pub footprints-middle : (lim : Limits) (rs : List Region) (r : Region) (qs : List Region)
+pub footprints_middle : (lim : Limits) (rs : List Region) (r : Region) (qs : List Region)
     → footprints lim (rs ++ (r ∷ qs)) ≡ footprints lim rs ++ (footprint lim r ++ footprints lim qs)
 unfolding footprints
-footprints-middle lim rs r qs = footprints-append lim rs (r ∷ qs)
+footprints_middle lim rs r qs = footprints_append lim rs (r ∷ qs)
 
 -- "the sum of footprints" is the sum of their ranges
-pub footprints-total : (lim : Limits) (rs : List Region) → total (footprints lim rs) ≡ sum (map (footprint_len lim) rs)
+pub footprints_total : (lim : Limits) (rs : List Region) → total (footprints lim rs) ≡ sum (map (footprint_len lim) rs)
 unfolding footprints sum
-footprints-total lim [] = refl
-footprints-total lim (r ∷ rs) = total-append (footprint lim r) (footprints lim rs) ∙ omega (arith, footprints-total lim rs)
+footprints_total lim [] = refl
+footprints_total lim (r ∷ rs) = total_append (footprint lim r) (footprints lim rs) ∙ omega (arith, footprints_total lim rs)
 
 -- what is true of every footprint's ranges
-pub all-footprints : (P : Range → Type 0) (lim : Limits) (rs : List Region) → All (λ (r : Region). All P (footprint lim r)) rs → All P (footprints lim rs)
+pub all_footprints : (P : Range → Type 0) (lim : Limits) (rs : List Region) → All (λ (r : Region). All P (footprint lim r)) rs → All P (footprints lim rs)
 unfolding footprints
-all-footprints P lim [] a = tt
-all-footprints P lim (r ∷ rs) a = all_append P (footprint lim r) (footprints lim rs) a.0 (all-footprints P lim rs a.1)
+all_footprints P lim [] a = tt
+all_footprints P lim (r ∷ rs) a = all_append P (footprint lim r) (footprints lim rs) a.0 (all_footprints P lim rs a.1)
 
 -- ---- the region of a number afterwards
 
 module _ (id : ℕ) (f : Region → Region) (keeps : (r : Region) → (f r).number ≡ r.number) where
-  pub region-on : (rs : List Region) → HasKey id_of id rs → region_of id (on_region id f rs) ≡ f (region_of id rs)
+  pub region_on : (rs : List Region) → HasKey id_of id rs → region_of id (on_region id f rs) ≡ f (region_of id rs)
   unfolding keyed on_region
-  region-on [] k = absurd k
-  region-on (r ∷ rs) k =
-      by-eq r.number id (λ e. simp (eq-eqb _ _ e, eq-eqb _ _ (keeps r ∙ e)))
-      (λ d. simp (ne_eqb _ _ d) (region-on rs (has-later id_of id r rs d k)))
+  region_on [] k = absurd k
+  region_on (r ∷ rs) k =
+      by_eq r.number id (λ e. simp (eq-eqb _ _ e, eq-eqb _ _ (keeps r ∙ e)))
+      (λ d. simp (ne_eqb _ _ d) (region_on rs (has_later id_of id r rs d k)))
 
-  pub other-on : (n : ℕ) → (n ≡ id → ⊥) → (rs : List Region) → region_of n (on_region id f rs) ≡ region_of n rs
+  pub other_on : (n : ℕ) → (n ≡ id → ⊥) → (rs : List Region) → region_of n (on_region id f rs) ≡ region_of n rs
   unfolding keyed on_region
-  other-on n d [] = refl
-  other-on n d (r ∷ rs) =
-      by-eq r.number id
+  other_on n d [] = refl
+  other_on n d (r ∷ rs) =
+      by_eq r.number id
       (λ e. simp (eq-eqb _ _ e, ne_eqb (f r).number n (λ q. d (sym q ∙ keeps r ∙ e)), ne_eqb r.number n (λ q. d (sym q ∙ e))))
-      (λ e. simp (ne_eqb _ _ e) (ap (cond (eqb r.number n) r) (other-on n d rs)))
+      (λ e. simp (ne_eqb _ _ e) (ap (cond (eqb r.number n) r) (other_on n d rs)))
 
   pub has_on : (n : ℕ) (rs : List Region) → HasKey id_of n rs → HasKey id_of n (on_region id f rs)
   unfolding on_region
   has_on n [] h = h
   has_on n (r ∷ rs) h =
-      by-eq r.number id (λ e. simp (eq-eqb _ _ e) (⊎_elim (λ q. inl (keeps r ∙ q)) (λ a. inr a) h))
+      by_eq r.number id (λ e. simp (eq-eqb _ _ e) (⊎_elim (λ q. inl (keeps r ∙ q)) (λ a. inr a) h))
       (λ d. simp (ne_eqb _ _ d) (⊎_elim (λ q. inl q) (λ a. inr (has_on n rs a)) h))
 
 module _ (id n : ℕ) (d : n ≡ id → ⊥) where
-  pub other-without : (rs : List Region) → region_of n (without id rs) ≡ region_of n rs
+  pub other_without : (rs : List Region) → region_of n (without id rs) ≡ region_of n rs
   unfolding keyed without
-  other-without [] = refl
-  other-without (r ∷ rs) =
-      by-eq r.number id (λ e. simp (eq-eqb _ _ e, ne_eqb r.number n (λ q. d (sym q ∙ e))))
-      (λ e. simp (ne_eqb _ _ e) (ap (cond (eqb r.number n) r) (other-without rs)))
+  other_without [] = refl
+  other_without (r ∷ rs) =
+      by_eq r.number id (λ e. simp (eq-eqb _ _ e, ne_eqb r.number n (λ q. d (sym q ∙ e))))
+      (λ e. simp (ne_eqb _ _ e) (ap (cond (eqb r.number n) r) (other_without rs)))
 
-  pub has-without : (rs : List Region) → HasKey id_of n rs → HasKey id_of n (without id rs)
+  pub has_without : (rs : List Region) → HasKey id_of n rs → HasKey id_of n (without id rs)
   unfolding without
-  has-without [] h = h
-  has-without (r ∷ rs) h =
-      by-eq r.number id (λ e. simp (eq-eqb _ _ e) (has-later id_of n r rs (λ q. d (sym q ∙ e)) h))
-      (λ e. simp (ne_eqb _ _ e) (⊎_elim (λ q. inl q) (λ a. inr (has-without rs a)) h))
+  has_without [] h = h
+  has_without (r ∷ rs) h =
+      by_eq r.number id (λ e. simp (eq-eqb _ _ e) (has_later id_of n r rs (λ q. d (sym q ∙ e)) h))
+      (λ e. simp (ne_eqb _ _ e) (⊎_elim (λ q. inl q) (λ a. inr (has_without rs a)) h))
 
 -- with one more behind them
 module _ (n : ℕ) (q : Region) where
-  pub region-behind : (rs : List Region) → HasKey id_of n rs → region_of n (rs ++ (q ∷ [])) ≡ region_of n rs
+  pub region_behind : (rs : List Region) → HasKey id_of n rs → region_of n (rs ++ (q ∷ [])) ≡ region_of n rs
   unfolding keyed
-  region-behind [] h = absurd h
-  region-behind (r ∷ rs) h =
-      by-eq r.number n (λ e. simp (eq-eqb _ _ e))
-      (λ d. simp (ne_eqb _ _ d) (region-behind rs (has-later id_of n r rs d h)))
+  region_behind [] h = absurd h
+  region_behind (r ∷ rs) h =
+      by_eq r.number n (λ e. simp (eq-eqb _ _ e))
+      (λ d. simp (ne_eqb _ _ d) (region_behind rs (has_later id_of n r rs d h)))
 
-  pub has-behind : (rs : List Region) → HasKey id_of n rs → HasKey id_of n (rs ++ (q ∷ []))
-  has-behind [] h = absurd h
-  has-behind (r ∷ rs) h = ⊎_elim (λ e. inl e) (λ a. inr (has-behind rs a)) h
+  pub has_behind : (rs : List Region) → HasKey id_of n rs → HasKey id_of n (rs ++ (q ∷ []))
+  has_behind [] h = absurd h
+  has_behind (r ∷ rs) h = ⊎_elim (λ e. inl e) (λ a. inr (has_behind rs a)) h
 
 -- ---- how many there are
 
-pub length-on : (id : ℕ) (f : Region → Region) (rs : List Region) → length (on_region id f rs) ≡ length rs
-length-on id f rs =
+pub length_on : (id : ℕ) (f : Region → Region) (rs : List Region) → length (on_region id f rs) ≡ length rs
+length_on id f rs =
     let g : Region → ℕ = λ r. 0 in
     sym (length-map (on_region id f rs) g) ∙ ap length (map_on g id f (λ r. refl) rs) ∙ length-map rs g
 
@@ -226,16 +226,16 @@ pub length_without : (id : ℕ) (rs : List Region) → length (without id rs) �
 unfolding without
 length_without id [] = omega arith
 length_without id (r ∷ rs) =
-    let i = length_without id rs in by-eq r.number id (λ e. simp (eq-eqb _ _ e) (omega arith)) (λ d. simp (ne_eqb _ _ d) (omega arith))
+    let i = length_without id rs in by_eq r.number id (λ e. simp (eq-eqb _ _ e) (omega arith)) (λ d. simp (ne_eqb _ _ d) (omega arith))
 
 -- ---- different ones
 
 module _ {B : Type 0} (g : Region → B) (q : Region) where
-  pub distinct-behind : (rs : List Region) → Distinct (map g rs) → All (λ (r : Region). g r ≡ g q → ⊥) rs → Distinct (map g (rs ++ (q ∷ [])))
-  distinct-behind [] d a = (tt, tt)
-  distinct-behind (r ∷ rs) d a =
+  pub distinct_behind : (rs : List Region) → Distinct (map g rs) → All (λ (r : Region). g r ≡ g q → ⊥) rs → Distinct (map g (rs ++ (q ∷ [])))
+  distinct_behind [] d a = (tt, tt)
+  distinct_behind (r ∷ rs) d a =
       let P : B → Type 0 = λ b. g r ≡ b → ⊥ in
-      (all_map P g (rs ++ (q ∷ [])) (all_append (λ (x : Region). P (g x)) rs (q ∷ []) (map-all P g rs d.0) (a.0, tt)), distinct-behind rs d.1 a.1)
+      (all_map P g (rs ++ (q ∷ [])) (all_append (λ (x : Region). P (g x)) rs (q ∷ []) (map_all P g rs d.0) (a.0, tt)), distinct_behind rs d.1 a.1)
 
 -- ---- what is held where the region of a number is changed or dropped
 
@@ -246,23 +246,23 @@ module _ (lim : Limits) (id : ℕ) (rs : List Region) (s : Split id rs) where
   abbrev pub held_behind : List Range
   held_behind = footprints lim s.behind
 
-  pub held-parts : footprints lim rs ≡ footprints lim s.front ++ (footprint lim (region_of id rs) ++ held_behind)
-  held-parts = ap (footprints lim) s.is ∙ footprints-middle lim s.front (region_of id rs) s.behind
+  pub held_parts : footprints lim rs ≡ footprints lim s.front ++ (footprint lim (region_of id rs) ++ held_behind)
+  held_parts = ap (footprints lim) s.is ∙ footprints_middle lim s.front (region_of id rs) s.behind
 
-  pub held-split : footprints lim rs ≡ held_front ++ held_behind
-  held-split = held-parts ∙ sym (append_assoc (footprints lim s.front) (footprint lim (region_of id rs)) held_behind)
+  pub held_split : footprints lim rs ≡ held_front ++ held_behind
+  held_split = held_parts ∙ sym (append_assoc (footprints lim s.front) (footprint lim (region_of id rs)) held_behind)
 
   -- with an extent more
   pub held_grown : (a n : ℕ) → footprints lim (on_region id (grown a n) rs) ≡ held_front ++ (range a n ∷ held_behind)
   held_grown a n =
       ap (footprints lim) (s.changed (grown a n))
-      ∙ footprints-middle lim s.front (grown a n (region_of id rs)) s.behind
+      ∙ footprints_middle lim s.front (grown a n (region_of id rs)) s.behind
       ∙ ap (λ (l : List Range). footprints lim s.front ++ l) (append_assoc (footprint lim (region_of id rs)) (range a n ∷ []) held_behind)
       ∙ sym (append_assoc (footprints lim s.front) (footprint lim (region_of id rs)) (range a n ∷ held_behind))
 
   -- without it
-  pub held-dropped : footprints lim (without id rs) ≡ footprints lim s.front ++ held_behind
-  held-dropped = ap (footprints lim) s.dropped ∙ footprints-append lim s.front s.behind
+  pub held_dropped : footprints lim (without id rs) ≡ footprints lim s.front ++ held_behind
+  held_dropped = ap (footprints lim) s.dropped ∙ footprints_append lim s.front s.behind
 
 -- where the footprint stays, all do
 pub held_kept : (lim : Limits) (id : ℕ) (f : Region → Region) → ((r : Region) → footprint lim (f r) ≡ footprint lim r)
@@ -270,5 +270,5 @@ pub held_kept : (lim : Limits) (id : ℕ) (f : Region → Region) → ((r : Regi
 unfolding footprints on_region
 held_kept lim id f k [] = refl
 held_kept lim id f k (r ∷ rs) =
-    by-eq r.number id (λ e. simp (eq-eqb _ _ e) (ap (λ (l : List Range). l ++ footprints lim rs) (k r)))
+    by_eq r.number id (λ e. simp (eq-eqb _ _ e) (ap (λ (l : List Range). l ++ footprints lim rs) (k r)))
     (λ d. simp (ne_eqb _ _ d) (ap (λ (l : List Range). footprint lim r ++ l) (held_kept lim id f k rs)))

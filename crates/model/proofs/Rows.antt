@@ -14,51 +14,51 @@ use Rattle.numbers.specs.Keyed.{HasKey, InKeyOrder}
 use Rattle.numbers.specs.Lists.{All}
 use Rattle.model.proofs.Sound.{Sound}
 use Rattle.numbers.proofs.Cases.{cases}
-use Rattle.numbers.proofs.Keyed.{key-true, true-key, keyed-any-key, put_order, own-has, other-has, put-least, length-kept}
-use Rattle.numbers.proofs.Lists.{all-imp}
+use Rattle.numbers.proofs.Keyed.{key_true, true_key, keyed_any_key, put_order, own_has, other_has, put_least, length_kept}
+use Rattle.numbers.proofs.Lists.{all_imp}
 use Rattle.tagspace.specs.declared.Cap.TheVariants as cap-is
 
 -- the test says whether a tag has a row
 module _ (w : World) (tag : ℕ) where
-  pub row-true : has_row w tag ≡ true → HasKey tag_of tag w.rows
+  pub row_true : has_row w tag ≡ true → HasKey tag_of tag w.rows
   unfolding has_row
-  row-true e = key-true tag_of tag w.rows e
+  row_true e = key_true tag_of tag w.rows e
 
-  pub true-row : HasKey tag_of tag w.rows → has_row w tag ≡ true
+  pub true_row : HasKey tag_of tag w.rows → has_row w tag ≡ true
   unfolding has_row
-  true-row h = true-key tag_of tag w.rows h
+  true_row h = true_key tag_of tag w.rows h
 
 -- the rows with that of a tag, where it stands or new
 module _ (t : ℕ) (rows : List TagRow) where
-  pub row-tag : (row_of t rows).tag ≡ t
-  row-tag = keyed-any-key tag_of (tag_row t cap-is.Nothing) t refl rows
+  pub row_tag : (row_of t rows).tag ≡ t
+  row_tag = keyed_any_key tag_of (tag_row t cap-is.Nothing) t refl rows
 
-  pub with-order : InKeyOrder tag_of rows → InKeyOrder tag_of (with_tag t rows)
-  with-order o = put_order tag_of (row_of t rows) rows o
+  pub with_order : InKeyOrder tag_of rows → InKeyOrder tag_of (with_tag t rows)
+  with_order o = put_order tag_of (row_of t rows) rows o
 
-  pub with-own : HasKey tag_of t (with_tag t rows)
-  with-own = subst (λ (n : ℕ). HasKey tag_of n (with_tag t rows)) row-tag (own-has tag_of (row_of t rows) rows)
+  pub with_own : HasKey tag_of t (with_tag t rows)
+  with_own = subst (λ (n : ℕ). HasKey tag_of n (with_tag t rows)) row_tag (own_has tag_of (row_of t rows) rows)
 
-  pub with-others : (n : ℕ) → HasKey tag_of n rows → HasKey tag_of n (with_tag t rows)
-  with-others n h = other-has tag_of (row_of t rows) n rows h
+  pub with_others : (n : ℕ) → HasKey tag_of n rows → HasKey tag_of n (with_tag t rows)
+  with_others n h = other_has tag_of (row_of t rows) n rows h
 
 -- the rows of a sound world with one put in
 module _ (w : World) (s : Sound w) (t : TagRow) where
-  pub put-few : tag_full w t.tag ≡ false → length (put_row t w.rows) ≤ 96
+  pub put_few : tag_full w t.tag ≡ false → length (put_row t w.rows) ≤ 96
   unfolding tag_full
-  put-few f =
+  put_few f =
       cases (has_row w t.tag)
-      (λ e. let k = length-kept tag_of t w.rows s.order (row-true w t.tag e) in omega (arith, k, s.rows_few))
+      (λ e. let k = length_kept tag_of t w.rows s.order (row_true w t.tag e) in omega (arith, k, s.rows_few))
       (λ e.
       let l : leb 96 (length w.rows) ≡ false = sym (simp e) ∙ f in
       let m : length w.rows < 96 = leb-false _ _ l in
-      let k = put-least tag_of t w.rows in
+      let k = put_least tag_of t w.rows in
       omega arith)
 
-  pub put-ordered : InKeyOrder tag_of (put_row t w.rows)
-  put-ordered = put_order tag_of t w.rows s.order
+  pub put_ordered : InKeyOrder tag_of (put_row t w.rows)
+  put_ordered = put_order tag_of t w.rows s.order
 
-  pub put-tagged : All (λ (r : Region). HasKey tag_of r.tag (put_row t w.rows)) w.regions
-  put-tagged =
-      all-imp (λ (r : Region). HasKey tag_of r.tag w.rows) (λ (r : Region). HasKey tag_of r.tag (put_row t w.rows))
-      (λ r. other-has tag_of t r.tag w.rows) w.regions s.tagged
+  pub put_tagged : All (λ (r : Region). HasKey tag_of r.tag (put_row t w.rows)) w.regions
+  put_tagged =
+      all_imp (λ (r : Region). HasKey tag_of r.tag w.rows) (λ (r : Region). HasKey tag_of r.tag (put_row t w.rows))
+      (λ r. other_has tag_of t r.tag w.rows) w.regions s.tagged

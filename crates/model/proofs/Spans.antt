@@ -16,20 +16,20 @@ use Rattle.numbers.specs.Lists.{any}
 use Rattle.numbers.specs.Range.{Range, range, Meet, meets}
 use Rattle.numbers.specs.Sums.{top}
 use Rattle.sort.specs.Sort.{sorted}
-use Rattle.freemap.proofs.Places.{fit-lowest, meets-none-span, span-meets-none}
+use Rattle.freemap.proofs.Places.{fit_lowest, meets_none_span, span_meets_none}
 use Rattle.freemap.proofs.Sweeping.{swept_of}
 use Rattle.model.proofs.Sound.{Sound}
-use Rattle.numbers.proofs.Cases.{cases, clash, never, and-true, by-eq, by-lt}
-use Rattle.numbers.proofs.Lists.{all-imp, any_false, of_none}
-use Rattle.numbers.proofs.Ranges.{meets-false, meets-true}
+use Rattle.numbers.proofs.Cases.{cases, clash, never, and-true, by_eq, by_lt}
+use Rattle.numbers.proofs.Lists.{all_imp, any_false, of_none}
+use Rattle.numbers.proofs.Ranges.{meets_false, meets_true}
 use Rattle.freemap.proofs.Places as free
 
 -- ---- the test
 
 module _ (w : World) (n p : ℕ) where
-  pub free-true : is_free w n p ≡ true → FreeSpan w n p
+  pub free_true : is_free w n p ≡ true → FreeSpan w n p
   unfolding is_free
-  free-true e =
+  free_true e =
       let d = and-true _ _ e in
       let c = and-true _ _ d.0 in
       let b = and-true _ _ c.0 in
@@ -38,27 +38,27 @@ module _ (w : World) (n p : ℕ) where
         from = leb-true _ _ b.1;
         upto = leb-true _ _ c.1;
         apart =
-            all-imp (λ (r : Range). meets (range p n) r ≡ false) (λ (r : Range). Meet (range p n) r → ⊥) (λ r. meets-false (range p n) r) (held_ranges w)
+            all_imp (λ (r : Range). meets (range p n) r ≡ false) (λ (r : Range). Meet (range p n) r → ⊥) (λ r. meets_false (range p n) r) (held_ranges w)
             (any_false (meets (range p n)) (held_ranges w) (not-true _ d.1));
       }
 
-  pub true-free : FreeSpan w n p → is_free w n p ≡ true
+  pub true_free : FreeSpan w n p → is_free w n p ≡ true
   unfolding is_free
-  true-free f =
+  true_free f =
       let none-meets : any (meets (range p n)) (held_ranges w) ≡ false =
       of_none (meets (range p n)) (held_ranges w)
-      (all-imp (λ (r : Range). Meet (range p n) r → ⊥) (λ (r : Range). meets (range p n) r ≡ false)
-      (λ r a. never _ (λ t. a (meets-true (range p n) r t))) (held_ranges w) f.apart) in
+      (all_imp (λ (r : Range). Meet (range p n) r → ⊥) (λ (r : Range). meets (range p n) r ≡ false)
+      (λ r a. never _ (λ t. a (meets_true (range p n) r t))) (held_ranges w) f.apart) in
       simp (eq-eqb _ _ f.multiple, le-leb _ _ f.from, le-leb _ _ f.upto, none-meets)
 
 -- ---- the search
 
-pub by-search : {P : Type 0} (o : Option ℕ) → ((a : ℕ) → o ≡ some a → P) → (o ≡ none → P) → P
-by-search none f g = g refl
-by-search (some a) f g = f a refl
+pub by_search : {P : Type 0} (o : Option ℕ) → ((a : ℕ) → o ≡ some a → P) → (o ≡ none → P) → P
+by_search none f g = g refl
+by_search (some a) f g = f a refl
 
-pub none-some : {a : ℕ} → none ≡ some a → ⊥
-none-some e = let z : ◌≡◌ {A = ℕ} 0 1 = cc in omega arith
+pub none_some : {a : ℕ} → none ≡ some a → ⊥
+none_some e = let z : ◌≡◌ {A = ℕ} 0 1 = cc in omega arith
 
 pub same_some : {a b : ℕ} → some a ≡ some b → a ≡ b
 same_some e = cc
@@ -71,45 +71,45 @@ record Found (f : ℕ → Bool) (b n a : ℕ) : Type 0 where
   before : (p : ℕ) → b ≤ p → p < a → f p ≡ false
 
 module _ (f : ℕ → Bool) where
-  search-some : (b n a : ℕ) → first_from f b n ≡ some a → Found f b n a
+  search_some : (b n a : ℕ) → first_from f b n ≡ some a → Found f b n a
   unfolding first_from
-  search-some b zero a e = absurd (none-some e)
-  search-some b (suc n) a e =
+  search_some b zero a e = absurd (none_some e)
+  search_some b (suc n) a e =
       cases (f b)
       (λ t.
       let q : b ≡ a = same_some (sym (simp t) ∙ e) in
       record { passes = ap f (sym q) ∙ t; from = omega arith; upto = omega arith; before = λ p l u. absurd (omega arith) })
       (λ t.
-      let s = search-some (suc b) n a (sym (simp t) ∙ e) in
+      let s = search_some (suc b) n a (sym (simp t) ∙ e) in
       let l = s.from in
       let u = s.upto in
       record {
         passes = s.passes;
         from = omega arith;
         upto = omega arith;
-        before = λ p g h. by-eq p b (λ e. ap f e ∙ t) (λ d. s.before p (omega (arith, d)) h);
+        before = λ p g h. by_eq p b (λ e. ap f e ∙ t) (λ d. s.before p (omega (arith, d)) h);
       })
 
-  search-none : (b n : ℕ) → first_from f b n ≡ none → (p : ℕ) → b ≤ p → p < b + n → f p ≡ false
+  search_none : (b n : ℕ) → first_from f b n ≡ none → (p : ℕ) → b ≤ p → p < b + n → f p ≡ false
   unfolding first_from
-  search-none b zero e p l u = absurd (omega arith)
-  search-none b (suc n) e p l u =
-      cases (f b) (λ t. let q : none ≡ some b = sym e ∙ simp t in absurd (none-some q))
-      (λ t. by-eq p b (λ q. ap f q ∙ t) (λ d. search-none (suc b) n (sym (simp t) ∙ e) p (omega (arith, d)) (omega arith)))
+  search_none b zero e p l u = absurd (omega arith)
+  search_none b (suc n) e p l u =
+      cases (f b) (λ t. let q : none ≡ some b = sym e ∙ simp t in absurd (none_some q))
+      (λ t. by_eq p b (λ q. ap f q ∙ t) (λ d. search_none (suc b) n (sym (simp t) ∙ e) p (omega (arith, d)) (omega arith)))
 
 module _ (w : World) (n : ℕ) where
   -- the place that is found is the lowest of a free span
-  pub least-found : (a : ℕ) → least_free w n ≡ some a → LeastFree w n a
-  least-found a e =
-      let s = search-some (is_free w n) _ _ a e in
+  pub least_found : (a : ℕ) → least_free w n ≡ some a → LeastFree w n a
+  least_found a e =
+      let s = search_some (is_free w n) _ _ a e in
       record {
-        free = free-true w n a s.passes;
+        free = free_true w n a s.passes;
         least = λ q f.
-            by-lt q a (λ l. clash (true-free w n q f) (s.before q f.from l)) (λ l. l);
+            by_lt q a (λ l. clash (true_free w n q f) (s.before q f.from l)) (λ l. l);
       }
 
   pub none_found : ((p : ℕ) → FreeSpan w n p → ⊥) → least_free w n ≡ none
-  none_found h = by-search (least_free w n) (λ a e. absurd (h a (least-found a e).free)) (λ e. e)
+  none_found h = by_search (least_free w n) (λ a e. absurd (h a (least_found a e).free)) (λ e. e)
 
   module _ (pos : 0 < n) where
     -- none is found only where none is free
@@ -117,21 +117,21 @@ module _ (w : World) (n : ℕ) where
     none_free e p f =
         let u = f.upto in
         let l = f.from in
-        clash (true-free w n p f) (search-none (is_free w n) _ _ e p l (omega arith))
+        clash (true_free w n p f) (search_none (is_free w n) _ _ e p l (omega arith))
 
-    pub found-least : (a : ℕ) → LeastFree w n a → least_free w n ≡ some a
-    found-least a l =
-        by-search (least_free w n)
-        (λ b e. let m = least-found b e in e ∙ ap some (le_antisymm (m.least a l.free) (l.least b m.free)))
+    pub found_least : (a : ℕ) → LeastFree w n a → least_free w n ≡ some a
+    found_least a l =
+        by_search (least_free w n)
+        (λ b e. let m = least_found b e in e ∙ ap some (le_antisymm (m.least a l.free) (l.least b m.free)))
         (λ e. absurd (none_free e a l.free))
 
 -- ---- the free map's first fit
 
-pub block-some : (w : World) → 0 < block w
-block-some w = pow_pos w.limits.log2_block
+pub block_some : (w : World) → 0 < block w
+block_some w = pow_pos w.limits.log2_block
 
-pub block-most : (w : World) → Sound w → block w ≤ 65536
-block-most w s = pow_mono s.container.high
+pub block_most : (w : World) → Sound w → block w ≤ 65536
+block_most w s = pow_mono s.container.high
 
 module _ (w : World) (s : Sound w) where
   small : w.limits.file_len ≤ top
@@ -141,32 +141,32 @@ module _ (w : World) (s : Sound w) where
   by_bytes : (n p : ℕ) → FreeSpan w n p → free.FreeSpan w.limits.table_end w.limits.file_len (held_ranges w) n (block w) 0 p
   by_bytes n p f =
       let e = div-add-mod' p (block w) in
-      meets-none-span _ _ (held_ranges w) small n (block w) 0 p
+      meets_none_span _ _ (held_ranges w) small n (block w) 0 p
       (record { times = p / block w; is = omega (arith, e, f.multiple) })
       f.from f.upto f.apart
 
-  by-ranges : (n p : ℕ) → free.FreeSpan w.limits.table_end w.limits.file_len (held_ranges w) n (block w) 0 p → FreeSpan w n p
-  by-ranges n p f =
+  by_ranges : (n p : ℕ) → free.FreeSpan w.limits.table_end w.limits.file_len (held_ranges w) n (block w) 0 p → FreeSpan w n p
+  by_ranges n p f =
       let m = f.multiple in
       let e : p ≡ m.times * block w = omega (arith, m.is) in
       record {
         multiple = ap (λ (x : ℕ). x % block w) e ∙ mul-mod_left m.times (block w);
         from = f.from;
         upto = f.upto;
-        apart = span-meets-none _ _ (held_ranges w) small n (block w) 0 p f;
+        apart = span_meets_none _ _ (held_ranges w) small n (block w) 0 p f;
       }
 
   -- first fit over the gaps of what is held, with align the block and skew 0: no gap is ever skipped
-  pub least-is-fit : (n : ℕ) → 0 < n → least_free w n ≡ first_fit n (block w) 0 (gaps_of w.limits.table_end w.limits.file_len (held_ranges w))
-  least-is-fit n pos =
-      let b = block-most w s in
-      let l = fit-lowest w.limits.table_end w.limits.file_len (held_ranges w) n (block w) 0 pos (block-some w) (omega (arith, s.container.file)) in
-      by-search (least_free w n)
+  pub least_is_fit : (n : ℕ) → 0 < n → least_free w n ≡ first_fit n (block w) 0 (gaps_of w.limits.table_end w.limits.file_len (held_ranges w))
+  least_is_fit n pos =
+      let b = block_most w s in
+      let l = fit_lowest w.limits.table_end w.limits.file_len (held_ranges w) n (block w) 0 pos (block_some w) (omega (arith, s.container.file)) in
+      by_search (least_free w n)
       (λ a e.
-      let m = least-found w n a e in
-      e ∙ sym (l.some_is a (record { span = by_bytes n a m.free; least = λ q f. m.least q (by-ranges n q f) })))
-      (λ e. e ∙ sym (l.none_is (λ p f. none_free w n pos e p (by-ranges n p f))))
+      let m = least_found w n a e in
+      e ∙ sym (l.some_is a (record { span = by_bytes n a m.free; least = λ q f. m.least q (by_ranges n q f) })))
+      (λ e. e ∙ sym (l.none_is (λ p f. none_free w n pos e p (by_ranges n p f))))
 
   -- and so is first fit over one pass along the ranges in order
-  pub least-swept : (n : ℕ) → 0 < n → least_free w n ≡ first_fit n (block w) 0 (swept w.limits.file_len w.limits.table_end (sorted (held_ranges w)))
-  least-swept n pos = least-is-fit n pos ∙ ap (first_fit n (block w) 0) (sym (swept_of _ _ (held_ranges w) small))
+  pub least_swept : (n : ℕ) → 0 < n → least_free w n ≡ first_fit n (block w) 0 (swept w.limits.file_len w.limits.table_end (sorted (held_ranges w)))
+  least_swept n pos = least_is_fit n pos ∙ ap (first_fit n (block w) 0) (sym (swept_of _ _ (held_ranges w) small))

@@ -27,7 +27,7 @@ Keeps w id (c ∷ cs) = (c ≡ drop id → refusal_to w c ≡ 0 → ⊥) × Keep
 -- nowhere else; where one is free, it takes the lowest.
 pub record Room (w : World) (tests : List ℕ) (n : ℕ) (c : Call) : Type 0 where
   pub full : first tests ≡ 0 → ((p : ℕ) → FreeSpan w n p → ⊥) → answer_to w c ≡ refused 22
-  pub only-full : answer_to w c ≡ refused 22 → (p : ℕ) → FreeSpan w n p → ⊥
+  pub only_full : answer_to w c ≡ refused 22 → (p : ℕ) → FreeSpan w n p → ⊥
   pub placed : first tests ≡ 0 → (p : ℕ) → FreeSpan w n p → (a : ℕ) × LeastFree w n a × (answer_to w c ≡ accepted (some a))
 
 pub record Demand (w : World) : Type 0 where
@@ -45,5 +45,5 @@ pub record Demand (w : World) : Type 0 where
   -- no tag's total passes 2^64 - 1, so that the accounts, whose sums stop there, can tell it
   pub totals : (tag : ℕ) → (physical w tag ≤ top) × (logical w tag ≤ top)
   -- room is refused exactly when no span is free
-  pub create-room : (id tag : ℕ) (name : List ℕ) → Room w (create_tests w id tag name) (header_len w) (create id tag name)
-  pub grow-room : (id : ℕ) → Room w (grow_tests w id) (step_len w (region_in w id)) (grow id)
+  pub create_room : (id tag : ℕ) (name : List ℕ) → Room w (create_tests w id tag name) (header_len w) (create id tag name)
+  pub grow_room : (id : ℕ) → Room w (grow_tests w id) (step_len w (region_in w id)) (grow id)

@@ -32,7 +32,7 @@ calls = create 1 7 main_a ∷ grow 1 ∷ publish 1 65536 ∷ locate 1 65535 1 �
 pub record Listing : Type 0 where
   -- "refusal=0 at=0 held=0 free=98304"
   pub open-refusal : open_refusal opening ≡ 0
-  pub open-held : held (opened opening) ≡ 0
+  pub open_held : held (opened opening) ≡ 0
   pub open_free : free (opened opening) ≡ 98304
   pub lines : lines_of (opened opening) calls
       ≡ line 0 8192 8192 90112

@@ -149,27 +149,27 @@ beside number name start =
     (16384 ∷ 16384 ∷ (start + 8192) ∷ 16384 ∷ []) 96 64
 
 pub record Refusing : Type 0 where
-  pub accepted-one : open_refusal one ≡ 0
+  pub accepted_one : open_refusal one ≡ 0
   -- 1. "More than 64 records": 64 of the same number are refused for that.
   pub records : (open_refusal (alike 65) ≡ 1) × (open_refusal (alike 64) ≡ 14)
   -- "or an entry's count above 60": 60 are refused since the header counts one.
   pub count : (open_refusal (counted 61) ≡ 1) × (open_refusal (counted 60) ≡ 9)
   -- "max_extents(L) .. limits the entry's and the header's extent count", "244 at 12"
-  pub header-count : (open_refusal (listed Append 245 (replicate 490 4096)) ≡ 1) × (open_refusal (listed Append 244 (replicate 488 4096)) ≡ 9)
+  pub header_count : (open_refusal (listed Append 245 (replicate 490 4096)) ≡ 1) × (open_refusal (listed Append 244 (replicate 488 4096)) ≡ 9)
   -- "names of 0 to 24 bytes"
   pub name : (open_refusal (lent (replicate 25 97) extent 48 64) ≡ 1) × (open_refusal (lent (replicate 24 97) extent 48 64) ≡ 0)
   -- "a list of pairs is odd"
   pub odd : open_refusal (lent main_a (16384 ∷ 16384 ∷ 0 ∷ []) 48 64) ≡ 1
   -- "or not the header's count"
-  pub pair-too-many : open_refusal (lent main_a one_extent_more 48 64) ≡ 1
+  pub pair_too_many : open_refusal (lent main_a one_extent_more 48 64) ≡ 1
   -- "Too short is fewer places than: .. 16 numbers a range for scratch of .. open"
   pub scratch : open_refusal (lent main_a extent 47 64) ≡ 1
   -- ".. room for a map's runs", of "Up to 64 regions"
   pub places : open_refusal (lent main_a extent 48 63) ≡ 1
   -- 2. "L is out of range"
-  pub block-log : (open_refusal (within 11 262144) ≡ 2) × (open_refusal (within 17 262144) ≡ 2)
+  pub block_log : (open_refusal (within 11 262144) ≡ 2) × (open_refusal (within 17 262144) ≡ 2)
   -- "or the header's block log is neither L nor 9"
-  pub header-log : open_refusal (headed (header 1 Append 0 true 10 1)) ≡ 2
+  pub header_log : open_refusal (headed (header 1 Append 0 true 10 1)) ≡ 2
   -- 3. "At open, length < table end or length > 2^63 - 1."
   pub length : (open_refusal (within 12 8191) ≡ 3) × (open_refusal (within 12 (2 ^ 63)) ≡ 3)
   -- 4. "The added entry checks fail": "data size <= capacity", "no committed extent .. of length 0"
@@ -181,7 +181,7 @@ pub record Refusing : Type 0 where
   -- 7. "Flags differ."
   pub flags : open_refusal (headed (header 1 Append 1 true 12 1)) ≡ 7
   -- 8. "The header isn't Ready."
-  pub not-ready : open_refusal (headed (header 1 Append 0 false 12 1)) ≡ 8
+  pub not_ready : open_refusal (headed (header 1 Append 0 false 12 1)) ≡ 8
   -- 9. "The header's extent count is not allowed."
   pub fewer : open_refusal (listed Append 0 []) ≡ 9
   -- "unless the kind is Slot, one more; that extra one is handed out unchecked"
@@ -222,10 +222,10 @@ pub record InOrder : Type 0 where
   -- "the first record that fails gives its lowest number": 5 of the second alone, and beside 9 of the first
   pub in-turn : (open_refusal (in_turn 8192 1 9 12) ≡ 5) × (open_refusal (in_turn 8192 0 9 12) ≡ 9)
   -- "1, 2 and 3 are tested over all, each record is then checked": 4 of the first alone, and beside 2 of the second
-  pub over-all : (open_refusal (in_turn 20480 1 2 12) ≡ 4) × (open_refusal (in_turn 20480 1 2 13) ≡ 2)
+  pub over_all : (open_refusal (in_turn 20480 1 2 12) ≡ 4) × (open_refusal (in_turn 20480 1 2 13) ≡ 2)
   -- "then 14, then all are settled"
   pub last : open_refusal (beside 1 main_a 32768) ≡ 14
   -- No records: L 11, a length below the table end, and neither; "0 if none" is the last number.
-  pub empty-log : open_refusal (empty 11 262144) ≡ 2
-  pub empty-length : open_refusal (empty 12 8191) ≡ 3
-  pub empty-accepted : (open_refusal (empty 12 8192) ≡ 0) × ((opened (empty 12 8192)).last ≡ 0)
+  pub empty_log : open_refusal (empty 11 262144) ≡ 2
+  pub empty_length : open_refusal (empty 12 8191) ≡ 3
+  pub empty_accepted : (open_refusal (empty 12 8192) ≡ 0) × ((opened (empty 12 8192)).last ≡ 0)

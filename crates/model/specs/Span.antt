@@ -20,7 +20,7 @@ pub record LeastFree (w : World) (n p : ℕ) : Type 0 where
   pub free : FreeSpan w n p
   pub least : (q : ℕ) → FreeSpan w n q → p ≤ q
 
--- A free span as a test; `free-true` and `true-free` (proofs/Spans) tie it to `FreeSpan`.
+-- A free span as a test; `free_true` and `true_free` (proofs/Spans) tie it to `FreeSpan`.
 unfoldable pub is_free : World → ℕ → ℕ → Bool
 is_free w n p =
     eqb (p % block w) 0
@@ -33,8 +33,8 @@ unfoldable pub first_from : (ℕ → Bool) → ℕ → ℕ → Option ℕ
 first_from f b zero = none
 first_from f b (suc n) = cond (f b) (some b) (first_from f (suc b) n)
 
--- "first fit", "lowest address first": the least place of a free span of n bytes, none if none is free. `least-found`,
--- `found-least` and `none_free` (proofs/Spans) say that it is, `least-is-fit` that the free map's first fit is the same.
+-- "first fit", "lowest address first": the least place of a free span of n bytes, none if none is free. `least_found`,
+-- `found_least` and `none_free` (proofs/Spans) say that it is, `least_is_fit` that the free map's first fit is the same.
 abbrev pub least_free : World → ℕ → Option ℕ
 least_free w n = first_from (is_free w n) w.limits.table_end (w.limits.file_len - w.limits.table_end)
 

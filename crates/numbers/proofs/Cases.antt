@@ -12,14 +12,14 @@ module _ {P : Type 0} where
   cases true f g = f refl
   cases false f g = g refl
 
-  pub by-lt : (m n : ℕ) → (m < n → P) → (n ≤ m → P) → P
-  by-lt m n f g = cases (ltb m n) (λ e. f (ltb-true m n e)) (λ e. g (ltb-false m n e))
+  pub by_lt : (m n : ℕ) → (m < n → P) → (n ≤ m → P) → P
+  by_lt m n f g = cases (ltb m n) (λ e. f (ltb-true m n e)) (λ e. g (ltb-false m n e))
 
-  pub by-eq : (m n : ℕ) → (m ≡ n → P) → ((m ≡ n → ⊥) → P) → P
-  by-eq m n f g = cases (eqb m n) (λ e. f (eqb-true m n e)) (λ e. g (eqb-false m n e))
+  pub by_eq : (m n : ℕ) → (m ≡ n → P) → ((m ≡ n → ⊥) → P) → P
+  by_eq m n f g = cases (eqb m n) (λ e. f (eqb-true m n e)) (λ e. g (eqb-false m n e))
 
   pub by_order : (m n : ℕ) → (m < n → P) → (m ≡ n → P) → (n < m → P) → P
-  by_order m n f g h = by-lt m n f (λ l. by-eq m n g (λ e. h (omega arith)))
+  by_order m n f g h = by_lt m n f (λ l. by_eq m n g (λ e. h (omega arith)))
 
   -- a test is not both
   pub clash : {b : Bool} → b ≡ true → b ≡ false → P
@@ -48,11 +48,11 @@ and-true true b e = (refl, e)
 and-true false b e = clash {b = false} e refl
 
 -- not above is at most
-pub not-above : (m n : ℕ) → not (ltb n m) ≡ leb m n
-not-above m n = by-lt n m (λ h. rw (lt-ltb n m h, lt-leb m n h)) (λ h. rw (le-ltb n m h, le-leb m n h))
+pub not_above : (m n : ℕ) → not (ltb n m) ≡ leb m n
+not_above m n = by_lt n m (λ h. rw (lt-ltb n m h, lt-leb m n h)) (λ h. rw (le-ltb n m h, le-leb m n h))
 
 -- what is left of d is compared with b
 pub left_over : (d m b : ℕ) → m ≤ d → ltb (d - m) b ≡ ltb d (m + b)
 left_over d m b h =
-    by-lt d (m + b) (λ l. lt-ltb (d - m) b (omega arith) ∙ sym (lt-ltb d (m + b) l))
+    by_lt d (m + b) (λ l. lt-ltb (d - m) b (omega arith) ∙ sym (lt-ltb d (m + b) l))
     (λ l. le-ltb (d - m) b (omega arith) ∙ sym (le-ltb d (m + b) l))

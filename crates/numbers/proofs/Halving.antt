@@ -9,7 +9,7 @@ use lib.ListN.{length, get_or}
 use borrow.Author.Tests.{lt-leb, le-leb}
 use Rattle.numbers.specs.Search.{Rising, Found}
 use Rattle.numbers.specs.Sums.{stop}
-use Rattle.numbers.proofs.Cases.{by-lt, cases}
+use Rattle.numbers.proofs.Cases.{by_lt, cases}
 use mir.Val.{bool_byte}
 
 -- from lo on, at most n more numbers are at or below p
@@ -19,8 +19,8 @@ pub record Halving (ss : List ℕ) (count p lo n : ℕ) : Type 0 where
   pub below : 0 < lo → get_or ss (lo - 1) 0 ≤ p
   pub above : Rising ss count → (j : ℕ) → lo + n ≤ j → j < count → p < get_or ss j 0
 
-pub halving-begins : (ss : List ℕ) (count p : ℕ) → count ≤ length ss → Halving ss count p 0 count
-halving-begins ss count p h =
+pub halving_begins : (ss : List ℕ) (count p : ℕ) → count ≤ length ss → Halving ss count p 0 count
+halving_begins ss count p h =
     record {
       enough = h;
       inside = omega arith;
@@ -33,12 +33,12 @@ module _ {ss : List ℕ} {count p lo n : ℕ} (g : Halving ss count p lo n) wher
     abbrev step : ℕ
     step = n - n / 2
 
-    pub halving-in : lo + step - 1 < length ss
-    halving-in = omega (arith, g.inside, g.enough)
+    pub halving_in : lo + step - 1 < length ss
+    halving_in = omega (arith, g.inside, g.enough)
 
     -- twice the step is at most one more than what is left
-    pub halving-short : lo + step + step ≤ length ss + 1
-    halving-short = omega (arith, g.inside, g.enough)
+    pub halving_short : lo + step + step ≤ length ss + 1
+    halving_short = omega (arith, g.inside, g.enough)
 
     -- the number in the middle is at or below p
     up : get_or ss (lo + step - 1) 0 ≤ p → Halving ss count p (lo + step) (n / 2)
@@ -60,14 +60,14 @@ module _ {ss : List ℕ} {count p lo n : ℕ} (g : Halving ss count p lo n) wher
           above = λ r j a b. let o = r (lo + step - 1) j (omega (arith, a)) b in omega (arith, h, o);
         }
 
-    pub halving-on : count < 2 ^ 64 → (next : ℕ) → next ≡ stop (lo + cond (leb (get_or ss (lo + step - 1) 0) p) step 0) → Halving ss count p next (n / 2)
-    halving-on f next e =
-        by-lt p (get_or ss (lo + step - 1) 0)
+    pub halving_on : count < 2 ^ 64 → (next : ℕ) → next ≡ stop (lo + cond (leb (get_or ss (lo + step - 1) 0) p) step 0) → Halving ss count p next (n / 2)
+    halving_on f next e =
+        by_lt p (get_or ss (lo + step - 1) 0)
         (λ h. let d = rw (lt-leb (get_or ss (lo + step - 1) 0) p h) at e in let n : next ≡ lo = omega (arith, d, g.inside) in rw n (down h))
         (λ h. let d = rw (le-leb (get_or ss (lo + step - 1) 0) p h) at e in let n : next ≡ lo + step = omega (arith, d, g.inside) in rw n (up h))
 
-  pub halving-ends : n ≤ 0 → Found ss count p lo
-  halving-ends l =
+  pub halving_ends : n ≤ 0 → Found ss count p lo
+  halving_ends l =
       record {
         inside = omega (arith, g.inside);
         below = g.below;

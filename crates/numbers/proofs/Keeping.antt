@@ -17,44 +17,44 @@ module _ {A : Type 0} (f : A → Bool) where
   keep_append [] ys = refl
   keep_append (x ∷ xs) ys = cases (f x) (λ e. simp (e, keep_append xs ys)) (λ e. simp (e, keep_append xs ys))
 
-  pub any-keep : (g : A → Bool) (l : List A) → any g (keep f l) ≡ any (λ (x : A). f x && g x) l
+  pub any_keep : (g : A → Bool) (l : List A) → any g (keep f l) ≡ any (λ (x : A). f x && g x) l
   unfolding any keep
-  any-keep g [] = refl
-  any-keep g (x ∷ xs) = cases (f x) (λ e. simp (e, any-keep g xs)) (λ e. simp (e, any-keep g xs))
+  any_keep g [] = refl
+  any_keep g (x ∷ xs) = cases (f x) (λ e. simp (e, any_keep g xs)) (λ e. simp (e, any_keep g xs))
 
-  pub any-kept : (l : List A) → ltb 0 (length (keep f l)) ≡ any f l
+  pub any_kept : (l : List A) → ltb 0 (length (keep f l)) ≡ any f l
   unfolding any keep
-  any-kept [] = refl
-  any-kept (x ∷ xs) = cases (f x) (λ e. simp e (lt-ltb 0 (suc (length (keep f xs))) (omega arith))) (λ e. simp (e, any-kept xs))
+  any_kept [] = refl
+  any_kept (x ∷ xs) = cases (f x) (λ e. simp e (lt-ltb 0 (suc (length (keep f xs))) (omega arith))) (λ e. simp (e, any_kept xs))
 
   -- an element may as well stand in front
-  pub any-middle : (xs : List A) (y : A) (ys : List A) → any f (xs ++ (y ∷ ys)) ≡ (f y || any f (xs ++ ys))
+  pub any_middle : (xs : List A) (y : A) (ys : List A) → any f (xs ++ (y ∷ ys)) ≡ (f y || any f (xs ++ ys))
   unfolding any
-  any-middle [] y ys = refl
-  any-middle (x ∷ xs) y ys = cases (f x) (λ e. simp (e, or-true)) (λ e. simp (e, any-middle xs y ys))
+  any_middle [] y ys = refl
+  any_middle (x ∷ xs) y ys = cases (f x) (λ e. simp (e, or-true)) (λ e. simp (e, any_middle xs y ys))
 
-  pub keep-middle : (xs : List A) (y : A) (ys : List A) → length (keep f (xs ++ (y ∷ ys))) ≡ length (keep f (y ∷ (xs ++ ys)))
+  pub keep_middle : (xs : List A) (y : A) (ys : List A) → length (keep f (xs ++ (y ∷ ys))) ≡ length (keep f (y ∷ (xs ++ ys)))
   unfolding keep
-  keep-middle xs y ys =
+  keep_middle xs y ys =
       cases (f y) (λ e. simp (keep_append, e, length-append) (omega arith)) (λ e. simp (keep_append, e, length-append))
 
 -- ---- how many they are
 
 module _ {A : Type 0} (f g : A → Bool) (imp : (x : A) → f x ≡ true → g x ≡ true) where
-  pub keep-most : (l : List A) → length (keep f l) ≤ length (keep g l)
+  pub keep_most : (l : List A) → length (keep f l) ≤ length (keep g l)
   unfolding keep
-  keep-most [] = omega arith
-  keep-most (x ∷ xs) =
-      let h = keep-most xs in
+  keep_most [] = omega arith
+  keep_most (x ∷ xs) =
+      let h = keep_most xs in
       cases (f x) (λ e. simp (e, imp x e) (omega arith))
       (λ e. cases (g x) (λ d. simp (e, d) (omega arith)) (λ d. simp (e, d) h))
 
-  pub keep-less : (l : List A) → Any (λ (x : A). (f x ≡ false) × (g x ≡ true)) l → length (keep f l) < length (keep g l)
+  pub keep_less : (l : List A) → Any (λ (x : A). (f x ≡ false) × (g x ≡ true)) l → length (keep f l) < length (keep g l)
   unfolding keep
-  keep-less [] a = absurd a
-  keep-less (x ∷ xs) (inl p) = let h = keep-most xs in simp (p.0, p.1) (omega arith)
-  keep-less (x ∷ xs) (inr a) =
-      let h = keep-less xs a in
+  keep_less [] a = absurd a
+  keep_less (x ∷ xs) (inl p) = let h = keep_most xs in simp (p.0, p.1) (omega arith)
+  keep_less (x ∷ xs) (inr a) =
+      let h = keep_less xs a in
       cases (f x) (λ e. simp (e, imp x e) (omega arith))
       (λ e. cases (g x) (λ d. simp (e, d) (omega arith)) (λ d. simp (e, d) h))
 
@@ -64,13 +64,13 @@ keep_all [] = refl
 keep_all (x ∷ xs) = ap (λ (t : List _). x ∷ t) (keep_all xs)
 
 -- a list whose first r elements pass a test and whose others do not has r that pass
-pub keep-front : {A : Type 0} (f : A → Bool) (l : List A) (d : A) (r : ℕ) → r ≤ length l
+pub keep_front : {A : Type 0} (f : A → Bool) (l : List A) (d : A) (r : ℕ) → r ≤ length l
     → ((s : ℕ) → s < r → f (get_or l s d) ≡ true)
     → ((s : ℕ) → r ≤ s → s < length l → f (get_or l s d) ≡ false)
     → length (keep f l) ≡ r
 unfolding keep
-keep-front f [] d r h a b = omega arith
-keep-front f (x ∷ xs) d zero h a b =
-    simp (b 0 (omega arith) (omega arith)) (keep-front f xs d 0 (omega arith) (λ s i. absurd (omega arith)) (λ s i j. b (suc s) (omega arith) (omega arith)))
-keep-front f (x ∷ xs) d (suc r) h a b =
-    simp (a 0 (omega arith)) (ap suc (keep-front f xs d r (omega arith) (λ s i. a (suc s) (omega arith)) (λ s i j. b (suc s) (omega arith) (omega arith))))
+keep_front f [] d r h a b = omega arith
+keep_front f (x ∷ xs) d zero h a b =
+    simp (b 0 (omega arith) (omega arith)) (keep_front f xs d 0 (omega arith) (λ s i. absurd (omega arith)) (λ s i j. b (suc s) (omega arith) (omega arith)))
+keep_front f (x ∷ xs) d (suc r) h a b =
+    simp (a 0 (omega arith)) (ap suc (keep_front f xs d r (omega arith) (λ s i. a (suc s) (omega arith)) (λ s i j. b (suc s) (omega arith) (omega arith))))

@@ -13,35 +13,35 @@ use Rattle.numbers.specs.Lists.{All}
 use Rattle.numbers.specs.Range.{Range, blank, total}
 use Rattle.numbers.specs.Refusals.{first, refuse, each_extent}
 use Rattle.numbers.specs.Sums.{top, sum}
-use Rattle.numbers.proofs.Cases.{by-eq}
-use Rattle.numbers.proofs.Lists.{from-here}
+use Rattle.numbers.proofs.Cases.{by_eq}
+use Rattle.numbers.proofs.Lists.{from_here}
 
 pub first_one : (n : ℕ) → first (n ∷ []) ≡ n
 unfolding first
-first_one n = by-eq n 0 (λ e. simp e) (λ d. simp (ne_eqb _ _ d))
+first_one n = by_eq n 0 (λ e. simp e) (λ d. simp (ne_eqb _ _ d))
 
 -- the tests of the first list decide, and where none fails those of the second
-pub first-stop : (ns ms : List ℕ) → (first ns ≡ 0 → ⊥) → first (ns ++ ms) ≡ first ns
+pub first_stop : (ns ms : List ℕ) → (first ns ≡ 0 → ⊥) → first (ns ++ ms) ≡ first ns
 unfolding first
-first-stop [] ms d = absurd (d refl)
-first-stop (n ∷ ns) ms d = by-eq n 0 (λ e. simp (eq-eqb _ _ e) (first-stop ns ms (λ z. d (simp (eq-eqb _ _ e) z)))) (λ n0. simp (ne_eqb _ _ n0))
+first_stop [] ms d = absurd (d refl)
+first_stop (n ∷ ns) ms d = by_eq n 0 (λ e. simp (eq-eqb _ _ e) (first_stop ns ms (λ z. d (simp (eq-eqb _ _ e) z)))) (λ n0. simp (ne_eqb _ _ n0))
 
-pub first-go : (ns ms : List ℕ) → first ns ≡ 0 → first (ns ++ ms) ≡ first ms
+pub first_go : (ns ms : List ℕ) → first ns ≡ 0 → first (ns ++ ms) ≡ first ms
 unfolding first
-first-go [] ms z = refl
-first-go (n ∷ ns) ms z =
-    by-eq n 0 (λ e. simp (eq-eqb _ _ e) (first-go ns ms (sym (simp (eq-eqb _ _ e)) ∙ z)))
+first_go [] ms z = refl
+first_go (n ∷ ns) ms z =
+    by_eq n 0 (λ e. simp (eq-eqb _ _ e) (first_go ns ms (sym (simp (eq-eqb _ _ e)) ∙ z)))
     (λ d. absurd (d (sym (simp (ne_eqb _ _ d)) ∙ z)))
 
 -- no test failed
-pub first-none : (n : ℕ) (ns : List ℕ) → first (n ∷ ns) ≡ 0 → (n ≡ 0) × (first ns ≡ 0)
+pub first_none : (n : ℕ) (ns : List ℕ) → first (n ∷ ns) ≡ 0 → (n ≡ 0) × (first ns ≡ 0)
 unfolding first
-first-none n ns z =
-    by-eq n 0 (λ e. (e, sym (simp (eq-eqb _ _ e)) ∙ z)) (λ d. absurd (d (sym (simp (ne_eqb _ _ d)) ∙ z)))
+first_none n ns z =
+    by_eq n 0 (λ e. (e, sym (simp (eq-eqb _ _ e)) ∙ z)) (λ d. absurd (d (sym (simp (ne_eqb _ _ d)) ∙ z)))
 
-pub first-parts : (ns ms : List ℕ) → first (ns ++ ms) ≡ 0 → (first ns ≡ 0) × (first ms ≡ 0)
-first-parts ns ms z =
-    by-eq (first ns) 0 (λ e. (e, sym (first-go ns ms e) ∙ z)) (λ d. absurd (d (sym (first-stop ns ms d) ∙ z)))
+pub first_parts : (ns ms : List ℕ) → first (ns ++ ms) ≡ 0 → (first ns ≡ 0) × (first ms ≡ 0)
+first_parts ns ms z =
+    by_eq (first ns) 0 (λ e. (e, sym (first_go ns ms e) ∙ z)) (λ d. absurd (d (sym (first_stop ns ms d) ∙ z)))
 
 pub none_first : (ns : List ℕ) → All (λ (n : ℕ). n ≡ 0) ns → first ns ≡ 0
 unfolding first
@@ -49,45 +49,45 @@ none_first [] a = refl
 none_first (n ∷ ns) a = simp a.0 (none_first ns a.1)
 
 -- the other way round
-pub first-all : (ns : List ℕ) → first ns ≡ 0 → All (λ (n : ℕ). n ≡ 0) ns
-first-all [] z = tt
-first-all (n ∷ ns) z = let p = first-none n ns z in (p.0, first-all ns p.1)
+pub first_all : (ns : List ℕ) → first ns ≡ 0 → All (λ (n : ℕ). n ≡ 0) ns
+first_all [] z = tt
+first_all (n ∷ ns) z = let p = first_none n ns z in (p.0, first_all ns p.1)
 
-pub pass-none : (n : ℕ) (b : Bool) → b ≡ false → refuse n b ≡ 0
+pub pass_none : (n : ℕ) (b : Bool) → b ≡ false → refuse n b ≡ 0
 unfolding refuse
-pass-none n b e = simp e
+pass_none n b e = simp e
 
-pub refuse-none : (n : ℕ) (b : Bool) → 0 < n → refuse n b ≡ 0 → b ≡ false
+pub refuse_none : (n : ℕ) (b : Bool) → 0 < n → refuse n b ≡ 0 → b ≡ false
 unfolding refuse
-refuse-none n true p z = absurd (omega arith)
-refuse-none n false p z = refl
+refuse_none n true p z = absurd (omega arith)
+refuse_none n false p z = refl
 
 -- no number reaches a bound that no test's number reaches
-pub first-low : (m : ℕ) (ns : List ℕ) → 0 < m → All (λ (n : ℕ). n < m) ns → first ns < m
+pub first_low : (m : ℕ) (ns : List ℕ) → 0 < m → All (λ (n : ℕ). n < m) ns → first ns < m
 unfolding first
-first-low m [] p a = p
-first-low m (n ∷ ns) p a = by-eq n 0 (λ e. simp (eq-eqb _ _ e) (first-low m ns p a.1)) (λ d. simp (ne_eqb _ _ d) a.0)
+first_low m [] p a = p
+first_low m (n ∷ ns) p a = by_eq n 0 (λ e. simp (eq-eqb _ _ e) (first_low m ns p a.1)) (λ d. simp (ne_eqb _ _ d) a.0)
 
 -- a number below a bound, and those of the extents
-pub refuse-low : (m n : ℕ) (b : Bool) → n < m → refuse n b < m
+pub refuse_low : (m n : ℕ) (b : Bool) → n < m → refuse n b < m
 unfolding refuse
-refuse-low m n true p = p
-refuse-low m n false p = omega arith
+refuse_low m n true p = p
+refuse_low m n false p = omega arith
 
 -- where every test's number reaches a bound, so does the one that is given, if one is
 abbrev pub NoneBelow : ℕ → ℕ → Type 0
 NoneBelow m n = (n ≡ 0) ⊎ (m ≤ n)
 
-pub first-high : (m : ℕ) (ns : List ℕ) → All (NoneBelow m) ns → NoneBelow m (first ns)
+pub first_high : (m : ℕ) (ns : List ℕ) → All (NoneBelow m) ns → NoneBelow m (first ns)
 unfolding first
-first-high m [] a = inl refl
-first-high m (n ∷ ns) a =
-    by-eq n 0 (λ e. simp (eq-eqb _ _ e) (first-high m ns a.1)) (λ d. simp (ne_eqb _ _ d) a.0)
+first_high m [] a = inl refl
+first_high m (n ∷ ns) a =
+    by_eq n 0 (λ e. simp (eq-eqb _ _ e) (first_high m ns a.1)) (λ d. simp (ne_eqb _ _ d) a.0)
 
-pub refuse-high : (m n : ℕ) (b : Bool) → m ≤ n → NoneBelow m (refuse n b)
+pub refuse_high : (m n : ℕ) (b : Bool) → m ≤ n → NoneBelow m (refuse n b)
 unfolding refuse
-refuse-high m n true p = inr p
-refuse-high m n false p = inl refl
+refuse_high m n true p = inr p
+refuse_high m n false p = inl refl
 
 -- ---- the first number that is not 0, by its place
 
@@ -96,19 +96,19 @@ pub record FirstAt (ns : List ℕ) (i : ℕ) : Type 0 where
   pub before : (j : ℕ) → j < i → get_or ns j 0 ≡ 0
   pub here : get_or ns i 0 ≡ 0 → ⊥
 
-pub first-at : (ns : List ℕ) (i : ℕ) → FirstAt ns i → first ns ≡ get_or ns i 0
+pub first_at : (ns : List ℕ) (i : ℕ) → FirstAt ns i → first ns ≡ get_or ns i 0
 unfolding first
-first-at [] i p = absurd (not-suc-le-zero p.inside)
-first-at (n ∷ ns) zero p = simp (ne_eqb n 0 p.here)
-first-at (n ∷ ns) (suc i) p =
+first_at [] i p = absurd (not-suc-le-zero p.inside)
+first_at (n ∷ ns) zero p = simp (ne_eqb n 0 p.here)
+first_at (n ∷ ns) (suc i) p =
     simp (p.before 0 (omega arith))
-    (first-at ns i (record { inside = le_of_suc-le-suc p.inside; before = λ j h. p.before (suc j) (omega arith); here = p.here }))
+    (first_at ns i (record { inside = le_of_suc-le-suc p.inside; before = λ j h. p.before (suc j) (omega arith); here = p.here }))
 
 pub at_first : (ns : List ℕ) → (first ns ≡ 0 → ⊥) → (i : ℕ) × FirstAt ns i
 unfolding first
 at_first [] d = absurd (d refl)
 at_first (n ∷ ns) d =
-    by-eq n 0
+    by_eq n 0
     (λ e.
     let q = at_first ns (λ z. d (simp e z)) in
     (suc q.0, record { inside = omega (arith, q.1.inside); before = behind n ns e q.0 q.1.before; here = q.1.here }))
@@ -121,10 +121,10 @@ at_first (n ∷ ns) d =
 -- ---- extents one by one
 
 module _ (outside : Range → Bool) where
-  pub each-high : (s : ℕ) (xs : List Range) → NoneBelow 11 (each_extent outside s xs)
+  pub each_high : (s : ℕ) (xs : List Range) → NoneBelow 11 (each_extent outside s xs)
   unfolding each_extent
-  each-high s [] = inl refl
-  each-high s (x ∷ xs) = first-high 11 _ (refuse-high 11 11 _ (omega arith), (refuse-high 11 12 _ (omega arith), (each-high (s + x.len) xs, tt)))
+  each_high s [] = inl refl
+  each_high s (x ∷ xs) = first_high 11 _ (refuse_high 11 11 _ (omega arith), (refuse_high 11 12 _ (omega arith), (each_high (s + x.len) xs, tt)))
 
   -- no extent is outside, and no sum passes
   pub each_none : (s : ℕ) (xs : List Range) → All (λ (x : Range). outside x ≡ false) xs → s + total xs ≤ top → each_extent outside s xs ≡ 0
@@ -132,30 +132,30 @@ module _ (outside : Range → Bool) where
   each_none s [] a h = refl
   each_none s (x ∷ xs) a h = simp (a.0, le-ltb top (s + x.len) (omega arith)) (first_one _ ∙ each_none (s + x.len) xs a.1 (omega arith))
 
-  pub each-low : (s : ℕ) (xs : List Range) → each_extent outside s xs < 13
+  pub each_low : (s : ℕ) (xs : List Range) → each_extent outside s xs < 13
   unfolding each_extent
-  each-low s [] = omega arith
-  each-low s (x ∷ xs) = first-low 13 _ (omega arith) (refuse-low 13 11 _ (omega arith), (refuse-low 13 12 _ (omega arith), (each-low (s + x.len) xs, tt)))
+  each_low s [] = omega arith
+  each_low s (x ∷ xs) = first_low 13 _ (omega arith) (refuse_low 13 11 _ (omega arith), (refuse_low 13 12 _ (omega arith), (each_low (s + x.len) xs, tt)))
 
   -- what it means that no extent failed
   each_next : (s : ℕ) (x : Range) (xs : List Range) → each_extent outside s (x ∷ xs) ≡ 0 → (outside x ≡ false) × (ltb top (s + x.len) ≡ false) × (each_extent outside (s + x.len) xs ≡ 0)
   unfolding each_extent
   each_next s x xs z =
-      let a = first-none _ _ z in
-      let b = first-none _ _ a.1 in
-      let c = first-none _ _ b.1 in
-      (refuse-none 11 _ (omega arith) a.0, refuse-none 12 _ (omega arith) b.0, c.0)
+      let a = first_none _ _ z in
+      let b = first_none _ _ a.1 in
+      let c = first_none _ _ b.1 in
+      (refuse_none 11 _ (omega arith) a.0, refuse_none 12 _ (omega arith) b.0, c.0)
 
-  pub each-inside : (s : ℕ) (xs : List Range) → each_extent outside s xs ≡ 0 → All (λ (x : Range). outside x ≡ false) xs
-  each-inside s [] z = tt
-  each-inside s (x ∷ xs) z = let e = each_next s x xs z in (e.0, each-inside (s + x.len) xs e.2)
+  pub each_inside : (s : ℕ) (xs : List Range) → each_extent outside s xs ≡ 0 → All (λ (x : Range). outside x ≡ false) xs
+  each_inside s [] z = tt
+  each_inside s (x ∷ xs) z = let e = each_next s x xs z in (e.0, each_inside (s + x.len) xs e.2)
 
-  pub each-sum : (s : ℕ) (xs : List Range) → s ≤ top → each_extent outside s xs ≡ 0 → s + total xs ≤ top
+  pub each_sum : (s : ℕ) (xs : List Range) → s ≤ top → each_extent outside s xs ≡ 0 → s + total xs ≤ top
   unfolding sum
-  each-sum s [] h z = omega arith
-  each-sum s (x ∷ xs) h z =
+  each_sum s [] h z = omega arith
+  each_sum s (x ∷ xs) h z =
       let e = each_next s x xs z in
-      let i = each-sum (s + x.len) xs (ltb-false _ _ e.1) e.2 in
+      let i = each_sum (s + x.len) xs (ltb-false _ _ e.1) e.2 in
       omega arith
 
 -- ---- a walk along extents: those in front of i are neither outside nor too long together, and their lengths sum to s
@@ -171,20 +171,20 @@ walk_begins outside xs n e = record { all = e; below = omega arith; sums = omega
 module _ {outside : Range → Bool} {xs : List Range} {n i s : ℕ} (g : Walked outside xs n i s) where
   module _ (l : i < n) (x : Range) (at : get_or xs i blank ≡ x) where
     next : drop i xs ≡ x ∷ drop (i + 1) xs
-    next = from-here xs i blank (omega (arith, g.all)) ∙ rw at
+    next = from_here xs i blank (omega (arith, g.all)) ∙ rw at
 
-    pub walk-outside : outside x ≡ true → each_extent outside 0 xs ≡ 11
+    pub walk_outside : outside x ≡ true → each_extent outside 0 xs ≡ 11
     unfolding first refuse each_extent
-    walk-outside o = g.rest ∙ rw next (simp o)
+    walk_outside o = g.rest ∙ rw next (simp o)
 
     module _ (o : outside x ≡ false) where
-      pub walk-over : ltb top (s + x.len) ≡ true → each_extent outside 0 xs ≡ 12
+      pub walk_over : ltb top (s + x.len) ≡ true → each_extent outside 0 xs ≡ 12
       unfolding first refuse each_extent
-      walk-over p = g.rest ∙ rw next (simp (o, p))
+      walk_over p = g.rest ∙ rw next (simp (o, p))
 
-      pub walk-on : ltb top (s + x.len) ≡ false → Walked outside xs n (i + 1) (s + x.len)
+      pub walk_on : ltb top (s + x.len) ≡ false → Walked outside xs n (i + 1) (s + x.len)
       unfolding first refuse each_extent sum
-      walk-on p =
+      walk_on p =
           let t : total (drop i xs) ≡ x.len + total (drop (i + 1) xs) = rw next in
           record {
             all = g.all;
@@ -198,8 +198,8 @@ module _ {outside : Range → Bool} {xs : List Range} {n i s : ℕ} (g : Walked 
     unfolding each_extent
     walk_ends = g.rest ∙ rw (drop_of_length-le xs {i = i} (omega (arith, g.all)))
 
-    pub walk-sum : s ≡ total xs
+    pub walk_sum : s ≡ total xs
     unfolding sum
-    walk-sum =
+    walk_sum =
         let t : total (drop i xs) ≡ 0 = rw (drop_of_length-le xs {i = i} (omega (arith, g.all))) in
         omega (arith, g.sums, t)

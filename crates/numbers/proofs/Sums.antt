@@ -8,39 +8,39 @@ use lib.Seq.{take-suc, take-take}
 use Rattle.numbers.specs.Range.{Range, total}
 use Rattle.numbers.specs.Sums.{stop, sum}
 
-pub sum-append : (xs ys : List ℕ) → sum (xs ++ ys) ≡ sum xs + sum ys
+pub sum_append : (xs ys : List ℕ) → sum (xs ++ ys) ≡ sum xs + sum ys
 unfolding sum
-sum-append [] ys = omega arith
-sum-append (x ∷ xs) ys = let e = sum-append xs ys in omega arith
+sum_append [] ys = omega arith
+sum_append (x ∷ xs) ys = let e = sum_append xs ys in omega arith
 
-pub sum-split : (n : ℕ) (xs : List ℕ) → sum (take n xs) + sum (drop n xs) ≡ sum xs
-sum-split n xs = sym (sum-append (take n xs) (drop n xs)) ∙ ap sum (take-append-drop n xs)
+pub sum_split : (n : ℕ) (xs : List ℕ) → sum (take n xs) + sum (drop n xs) ≡ sum xs
+sum_split n xs = sym (sum_append (take n xs) (drop n xs)) ∙ ap sum (take-append-drop n xs)
 
 -- of one more at the end, and of a shorter front
-pub sum-next : (l : List ℕ) (i : ℕ) → i < length l → sum (take (suc i) l) ≡ sum (take i l) + get_or l i 0
+pub sum_next : (l : List ℕ) (i : ℕ) → i < length l → sum (take (suc i) l) ≡ sum (take i l) + get_or l i 0
 unfolding sum
-sum-next l i h = ap sum (take-suc l i 0 h) ∙ sum-append (take i l) (get_or l i 0 ∷ []) ∙ omega arith
+sum_next l i h = ap sum (take-suc l i 0 h) ∙ sum_append (take i l) (get_or l i 0 ∷ []) ∙ omega arith
 
-pub sum-front : (l : List ℕ) (i j : ℕ) → i ≤ j → sum (take i l) ≤ sum (take j l)
-sum-front l i j h =
-    let e = sum-split i (take j l) in
+pub sum_front : (l : List ℕ) (i j : ℕ) → i ≤ j → sum (take i l) ≤ sum (take j l)
+sum_front l i j h =
+    let e = sum_split i (take j l) in
     let f = ap sum (take-take i j l h) in
     omega arith
 
 -- a sum that stopped may be added to as if it had not
-pub stop-add : (a b : ℕ) → stop (stop a + b) ≡ stop (a + b)
-stop-add a b = omega arith
+pub stop_add : (a b : ℕ) → stop (stop a + b) ≡ stop (a + b)
+stop_add a b = omega arith
 
 -- the lengths of ranges together
-pub total-append : (xs ys : List Range) → total (xs ++ ys) ≡ total xs + total ys
-total-append xs ys = ap sum (map-append (λ (r : Range). r.len) xs ys) ∙ sum-append _ _
+pub total_append : (xs ys : List Range) → total (xs ++ ys) ≡ total xs + total ys
+total_append xs ys = ap sum (map-append (λ (r : Range). r.len) xs ys) ∙ sum_append _ _
 
-pub total-one : (xs : List Range) (x : Range) → total (xs ++ (x ∷ [])) ≡ total xs + x.len
+pub total_one : (xs : List Range) (x : Range) → total (xs ++ (x ∷ [])) ≡ total xs + x.len
 unfolding sum
-total-one xs x = let e = total-append xs (x ∷ []) in omega arith
+total_one xs x = let e = total_append xs (x ∷ []) in omega arith
 
-pub total-take : (n : ℕ) (xs : List Range) → total (take n xs) ≤ total xs
-total-take n xs =
-    let e = total-append (take n xs) (drop n xs) in
+pub total_take : (n : ℕ) (xs : List Range) → total (take n xs) ≤ total xs
+total_take n xs =
+    let e = total_append (take n xs) (drop n xs) in
     let t = ap total (take-append-drop n xs) in
     omega arith

@@ -6,7 +6,7 @@ use Rattle.numbers.specs.Lists.{Any, Pairwise, any}
 abbrev pub HasKey : {A : Type 0} → (A → ℕ) → ℕ → List A → Type 0
 HasKey {A} key n xs = Any (λ (x : A). key x ≡ n) xs
 
--- The same as a test; `key-true`, `true-key` and `key-false` (proofs/Keyed) tie it to `HasKey`.
+-- The same as a test; `key_true`, `true_key` and `key_false` (proofs/Keyed) tie it to `HasKey`.
 unfoldable pub has_key : {A : Type 0} → (A → ℕ) → ℕ → List A → Bool
 has_key {A} key n xs = any (λ (x : A). eqb (key x) n) xs
 
@@ -14,7 +14,7 @@ has_key {A} key n xs = any (λ (x : A). eqb (key x) n) xs
 abbrev pub InKeyOrder : {A : Type 0} → (A → ℕ) → List A → Type 0
 InKeyOrder {A} key xs = Pairwise (λ (x y : A). key x < key y) xs
 
--- The first element that has the key n, another one where none has; `keyed-there` and `keyed-none` (proofs/Keyed) say so.
+-- The first element that has the key n, another one where none has; `keyed_there` and `keyed_none` (proofs/Keyed) say so.
 unfoldable pub keyed : {A : Type 0} → (A → ℕ) → A → ℕ → List A → A
 keyed key other n [] = other
 keyed key other n (x ∷ xs) = cond (eqb (key x) n) x (keyed key other n xs)

@@ -14,11 +14,11 @@ abbrev pub Pairwise : {A : Type 0} → (A → A → Type 0) → List A → Type 
 Pairwise R [] = Unit {0}
 Pairwise R (x ∷ xs) = All (R x) xs × Pairwise R xs
 
--- No element comes twice; `distinct-at` and `at-distinct` (proofs/Lists) say it with places.
+-- No element comes twice; `distinct_at` and `at_distinct` (proofs/Lists) say it with places.
 abbrev pub Distinct : {A : Type 0} → List A → Type 0
 Distinct {A} xs = Pairwise (λ (x y : A). x ≡ y → ⊥) xs
 
--- Some element passes a test; `any-true` and `any_false` (proofs/Lists) tie it to `Any` and `All`.
+-- Some element passes a test; `any_true` and `any_false` (proofs/Lists) tie it to `Any` and `All`.
 unfoldable pub any : {A : Type 0} → (A → Bool) → List A → Bool
 any f [] = false
 any f (x ∷ xs) = f x || any f xs

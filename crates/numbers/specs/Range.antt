@@ -24,7 +24,7 @@ pub record Has (r : Range) (b : ℕ) : Type 0 where
   pub from : r.offset ≤ b
   pub upto : b < end_of r
 
--- The same as a test; `has-true`, `true-has` and `has-false` (proofs/Ranges) tie it to `Has`.
+-- The same as a test; `has_true`, `true_has` and `has_false` (proofs/Ranges) tie it to `Has`.
 unfoldable pub has : Range → ℕ → Bool
 has r b = leb r.offset b && ltb b (end_of r)
 
@@ -34,11 +34,11 @@ pub record Meet (r q : Range) : Type 0 where
   pub left : Has r byte
   pub right : Has q byte
 
--- The same as a test; `meets-true` and `meets-false` (proofs/Ranges) tie it to `Meet`.
+-- The same as a test; `meets_true` and `meets_false` (proofs/Ranges) tie it to `Meet`.
 unfoldable pub meets : Range → Range → Bool
 meets r q = ltb (max r.offset q.offset) (min (end_of r) (end_of q))
 
--- No two ranges of a list meet; `disjoint-at` and `at-disjoint` (proofs/Disjoint) say it with their places.
+-- No two ranges of a list meet; `disjoint_at` and `at_disjoint` (proofs/Disjoint) say it with their places.
 abbrev pub Disjoint : List Range → Type 0
 Disjoint rs = Pairwise (λ (r q : Range). Meet r q → ⊥) rs
 

@@ -11,28 +11,28 @@ use Rattle.model.specs.World.{account_of}
 use Rattle.plan_record.specs.Plan.{rows_of, world_of, Valid}
 use Rattle.plan_record.specs.declared.Plan.{Plan}
 use Rattle.tagspace.specs.Row.{fits}
-use Rattle.plan_record.proofs.Tags.{table_in, posting-full, posting-fine}
+use Rattle.plan_record.proofs.Tags.{table_in, posting_full, posting_fine}
 use Rattle.accounting.specs.Table as accounting
 
 module _ (p : Plan) (xs ss fs : List ℕ) (v : Valid p xs ss fs) (tag n : ℕ) (q : Asked) (o : accounting.Asks p.accounts tag n q) where
-  pub asked-full : tag_full (world_of p xs) tag ≡ true → q.refusal ≡ 19
-  asked-full f =
+  pub asked_full : tag_full (world_of p xs) tag ≡ true → q.refusal ≡ 19
+  asked_full f =
       ap (λ (r : Asked). r.refusal) (o.answer v.accounts)
-      ∙ ap (λ (r : Posted). r.refusal) (posting-full p xs ss fs v tag accounting.same (λ r. refl) f)
+      ∙ ap (λ (r : Posted). r.refusal) (posting_full p xs ss fs v tag accounting.same (λ r. refl) f)
 
   module _ (f : tag_full (world_of p xs) tag ≡ false) where
     number : (accounting.handed (table_in p) (accounting.on_row tag accounting.same (table_in p))).refusal ≡ 0
-    number = ap (λ (r : Posted). r.refusal) (posting-fine p xs ss fs v tag accounting.same (λ r. refl) f)
+    number = ap (λ (r : Posted). r.refusal) (posting_fine p xs ss fs v tag accounting.same (λ r. refl) f)
 
-    pub asked-fine : q.refusal ≡ 0
-    asked-fine = ap (λ (r : Asked). r.refusal) (o.answer v.accounts) ∙ number
+    pub asked_fine : q.refusal ≡ 0
+    asked_fine = ap (λ (r : Asked). r.refusal) (o.answer v.accounts) ∙ number
 
-    fits-is : q.fits ≡ fits n (account_of (world_of p xs) tag)
-    fits-is =
+    fits_is : q.fits ≡ fits n (account_of (world_of p xs) tag)
+    fits_is =
         ap (λ (r : Asked). r.fits) (o.answer v.accounts)
         ∙ ap (λ (b : Bool). b && fits n (accounting.row_of tag (rows_of p))) (eq-eqb _ 0 number) ∙ true-and (fits n (accounting.row_of tag (rows_of p)))
         ∙ ap (fits n) (v.accounted tag)
 
-    pub asked-cap : cap_fails (world_of p xs) tag n ≡ not q.fits
+    pub asked_cap : cap_fails (world_of p xs) tag n ≡ not q.fits
     unfolding cap_fails
-    asked-cap = ap not (sym fits-is)
+    asked_cap = ap not (sym fits_is)

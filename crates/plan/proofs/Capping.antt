@@ -17,8 +17,8 @@ use Rattle.tagspace.specs.Row.{set_cap}
 use Rattle.tagspace.specs.declared.Cap.{Cap}
 use Rattle.model.proofs.Sound.{Sound}
 use Rattle.numbers.proofs.Cases.{cases}
-use Rattle.plan_record.proofs.Tags.{table_in, Taken, posting-taken, posting-refused, posted-rows, row-tag, accounted-on}
-use Rattle.plan.proofs.Refusing.{called-refused, called-accepted, Accepts, done-no-refusal}
+use Rattle.plan_record.proofs.Tags.{table_in, Taken, posting_taken, posting_refused, posted_rows, row_tag, accounted_on}
+use Rattle.plan.proofs.Refusing.{called_refused, called_accepted, Accepts, done_no_refusal}
 use Rattle.accounting.specs.Table as accounting
 use Rattle.model.specs.World as model
 
@@ -26,10 +26,10 @@ abbrev pub with_accounts : Plan → Accounting → Plan
 with_accounts p a = record { limits = p.limits; last = p.last; count = p.count; regions = p.regions; accounts = a }
 
 -- other accounts: the regions and their rows stay
-pub accounts-valid : (p : Plan) (xs ss fs : List ℕ) → Valid p xs ss fs → (a : Accounting) → accounting.Valid a
+pub accounts_valid : (p : Plan) (xs ss fs : List ℕ) → Valid p xs ss fs → (a : Accounting) → accounting.Valid a
     → ((tag : ℕ) → accounting.row_of tag (rows_of (with_accounts p a)) ≡ model.account_of (world_of (with_accounts p a) xs) tag)
     → Sound (world_of (with_accounts p a) xs) → Valid (with_accounts p a) xs ss fs
-accounts-valid p xs ss fs v a av ac so =
+accounts_valid p xs ss fs v a av ac so =
     record {
       full = v.full;
       few = v.few;
@@ -50,17 +50,17 @@ module _ (p : Plan) (tag : ℕ) (limit : Cap) (q : Posted) (o : accounting.Posts
     w = world_of p xs
 
     taken : tag_full w tag ≡ false → Taken p xs ss fs v tag (set_cap limit) (λ r. refl) q
-    taken f = posting-taken p xs ss fs v tag (set_cap limit) (λ r. refl) q o f
+    taken f = posting_taken p xs ss fs v tag (set_cap limit) (λ r. refl) q o f
 
     full_is : tag_full w tag ≡ true → q.refusal ≡ 19
-    full_is f = posting-refused p xs ss fs v tag (set_cap limit) (λ r. refl) q o f
+    full_is f = posting_refused p xs ss fs v tag (set_cap limit) (λ r. refl) q o f
 
-  pub cap-refused : (q.refusal ≡ 0 → ⊥) → Changes p (cap tag limit) (refusing p q.refusal)
+  pub cap_refused : (q.refusal ≡ 0 → ⊥) → Changes p (cap tag limit) (refusing p q.refusal)
   unfolding refusal_to first refuse
-  cap-refused n =
+  cap_refused n =
       record {
         called = λ xs ss fs.
-            called-refused p (cap tag limit) xs ss fs q.refusal
+            called_refused p (cap tag limit) xs ss fs q.refusal
             (λ v.
             cases (tag_full (world_of p xs) tag)
             (λ f. let e = full_is xs ss fs v f in (simp f (sym e), n))
@@ -77,17 +77,17 @@ module _ (p : Plan) (tag : ℕ) (limit : Cap) (q : Posted) (o : accounting.Posts
     rows_next : map cap_of (accounting.table_of q.accounts).rows ≡ model.put_row (model.tag_row tag limit) (map cap_of (rows_of p))
     rows_next =
         ap (λ (t : accounting.Table). map cap_of t.rows) (taken xs ss fs v not_full).table
-        ∙ posted-rows tag (set_cap limit) (table_in p)
-        ∙ ap (λ (n : ℕ). model.put_row (model.tag_row n limit) (map cap_of (rows_of p))) (row-tag tag (rows_of p))
+        ∙ posted_rows tag (set_cap limit) (table_in p)
+        ∙ ap (λ (n : ℕ). model.put_row (model.tag_row n limit) (map cap_of (rows_of p))) (row_tag tag (rows_of p))
 
-    world-next : world_of p' xs ≡ capped (world_of p xs) tag limit
+    world_next : world_of p' xs ≡ capped (world_of p xs) tag limit
     unfolding world_of
-    world-next = rw rows_next
+    world_next = rw rows_next
 
-    accounted-next : (t : ℕ) → accounting.row_of t (rows_of p') ≡ model.account_of (world_of p' xs) t
+    accounted_next : (t : ℕ) → accounting.row_of t (rows_of p') ≡ model.account_of (world_of p' xs) t
     unfolding world_of
-    accounted-next =
-        accounted-on p xs ss fs v tag (set_cap limit) (λ r. refl) p' xs (ap (λ (t : accounting.Table). t.rows) (taken xs ss fs v not_full).table)
+    accounted_next =
+        accounted_on p xs ss fs v tag (set_cap limit) (λ r. refl) p' xs (ap (λ (t : accounting.Table). t.rows) (taken xs ss fs v not_full).table)
         refl refl refl (λ t d. (refl, refl))
 
     accepts : Accepts p (cap tag limit) xs ss fs xs ss fs Done p' v
@@ -96,12 +96,12 @@ module _ (p : Plan) (tag : ℕ) (limit : Cap) (q : Posted) (o : accounting.Posts
         record {
           passes = simp not_full;
           byte = refl;
-          world = world-next;
-          valid = accounts-valid p xs ss fs v q.accounts (taken xs ss fs v not_full).valid accounted-next;
+          world = world_next;
+          valid = accounts_valid p xs ss fs v q.accounts (taken xs ss fs v not_full).valid accounted_next;
         }
 
-  pub cap-done : q.refusal ≡ 0 → Changes p (cap tag limit) (record { reply = Done; plan = with_accounts p q.accounts })
-  cap-done z =
+  pub cap_done : q.refusal ≡ 0 → Changes p (cap tag limit) (record { reply = Done; plan = with_accounts p q.accounts })
+  cap_done z =
       record {
-        called = λ xs ss fs. called-accepted p (cap tag limit) xs ss fs xs ss fs Done (with_accounts p q.accounts) done-no-refusal (accepts z xs ss fs);
+        called = λ xs ss fs. called_accepted p (cap tag limit) xs ss fs xs ss fs Done (with_accounts p q.accounts) done_no_refusal (accepts z xs ss fs);
       }

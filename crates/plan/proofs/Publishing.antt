@@ -20,15 +20,15 @@ use Rattle.plan.specs.Inner.{refusing}
 use Rattle.regionmap.specs.declared.Mapped.{Mapped as Answered}
 use Rattle.regionmap.specs.declared.RegionMap.{RegionMap}
 use Rattle.tagspace.specs.Row.{add_usage}
-use Rattle.model.proofs.Regions.{known-true, if_tag}
-use Rattle.model.proofs.Totals.{publish-physical, publish-logical}
-use Rattle.numbers.proofs.Answers.{accepted-is, one_passes, not-both}
-use Rattle.numbers.proofs.Cases.{by-lt}
-use Rattle.plan_record.proofs.Changing.{with_region, stays_same, world-changed, changed-valid}
-use Rattle.plan_record.proofs.Known.{region_at, known-here, known-not, region-is, mapped-is, log-most, regular-is, tagged_is}
-use Rattle.plan_record.proofs.Tags.{Taken, posting-taken, row-no-full, rows_stay, accounted-added, if_none, if-more}
-use Rattle.plan.proofs.Refusing.{called-refused, called-accepted, Accepts, done-no-refusal}
-use Rattle.regionmap.proofs.Bytes.{lays-published}
+use Rattle.model.proofs.Regions.{known_true, if_tag}
+use Rattle.model.proofs.Totals.{publish_physical, publish_logical}
+use Rattle.numbers.proofs.Answers.{accepted_is, one_passes, not_both}
+use Rattle.numbers.proofs.Cases.{by_lt}
+use Rattle.plan_record.proofs.Changing.{with_region, stays_same, world_changed, changed_valid}
+use Rattle.plan_record.proofs.Known.{region_at, known_here, known_not, region_is, mapped_is, log_most, regular_is, tagged_is}
+use Rattle.plan_record.proofs.Tags.{Taken, posting_taken, row_no_full, rows_stay, accounted_added, if_none, if_more}
+use Rattle.plan.proofs.Refusing.{called_refused, called_accepted, Accepts, done_no_refusal}
+use Rattle.regionmap.proofs.Bytes.{lays_published}
 use Rattle.accounting.specs.Table as accounting
 use Rattle.model.specs.Region as model
 use Rattle.model.specs.World as world
@@ -36,11 +36,11 @@ use Rattle.regionmap.specs.Map as regionmap
 use Rattle.regionmap.specs.declared.Mapped.TheVariants as mapped
 
 module _ (p : Plan) (id len i m : ℕ) (e : i ≡ spot_of p id) (a : m ≡ length (regions_of p)) where
-  pub publish-unknown : m ≤ i → Changes p (publish id len) (refusing p 16)
+  pub publish_unknown : m ≤ i → Changes p (publish id len) (refusing p 16)
   unfolding refusal_to first refuse
-  publish-unknown l =
+  publish_unknown l =
       record {
-        called = λ xs ss fs. called-refused p (publish id len) xs ss fs 16 (λ v. let k = known-not p xs id i m e a l in (simp k, λ z. omega arith));
+        called = λ xs ss fs. called_refused p (publish id len) xs ss fs 16 (λ v. let k = known_not p xs id i m e a l in (simp k, λ z. omega arith));
       }
 
   module _ (l : i < m) where
@@ -54,18 +54,18 @@ module _ (p : Plan) (id len i m : ℕ) (e : i ≡ spot_of p id) (a : m ≡ lengt
       -- the header's block
       block_same : (xs ss fs : List ℕ) → Valid p xs ss fs → b ≡ 2 ^ (region_in (world_of p xs) id).log2
       block_same xs ss fs v =
-          let r = regular-is p xs ss fs v i inside in
-          let h : min g.log2_block 16 ≡ g.log2_block = ⊎_elim (λ q. omega arith) (λ q. omega (arith, q, log-most p xs ss fs v)) r.log in
-          d ∙ ap (λ (n : ℕ). 2 ^ n) h ∙ sym (ap (λ (q : model.Region). 2 ^ q.log2) (region-is p xs i inside id e))
+          let r = regular_is p xs ss fs v i inside in
+          let h : min g.log2_block 16 ≡ g.log2_block = ⊎_elim (λ q. omega arith) (λ q. omega (arith, q, log_most p xs ss fs v)) r.log in
+          d ∙ ap (λ (n : ℕ). 2 ^ n) h ∙ sym (ap (λ (q : model.Region). 2 ^ q.log2) (region_is p xs i inside id e))
 
-      pub publish-odd : (len % b ≡ 0 → ⊥) → Changes p (publish id len) (refusing p 10)
+      pub publish_odd : (len % b ≡ 0 → ⊥) → Changes p (publish id len) (refusing p 10)
       unfolding refusal_to first refuse
-      publish-odd n =
+      publish_odd n =
           record {
             called = λ xs ss fs.
-                called-refused p (publish id len) xs ss fs 10
+                called_refused p (publish id len) xs ss fs 10
                 (λ v.
-                let k = known-here p xs id i m e a l in
+                let k = known_here p xs id i m e a l in
                 let q = block_same xs ss fs v in
                 (simp (k, ne_eqb (len % 2 ^ (region_in (world_of p xs) id).log2) 0 (λ z. n (ap (λ (c : ℕ). len % c) q ∙ z))), λ z. omega arith));
           }
@@ -75,21 +75,21 @@ module _ (p : Plan) (id len i m : ℕ) (e : i ≡ spot_of p id) (a : m ≡ lengt
         multiple xs ss fs v = ap (λ (c : ℕ). len % c) (sym (block_same xs ss fs v)) ∙ z
 
         -- the capacity is that of the map
-        capacity-is : (xs ss fs : List ℕ) → Valid p xs ss fs → model.capacity (region_in (world_of p xs) id) ≡ g.map.capacity
-        capacity-is xs ss fs v = ap model.capacity (region-is p xs i inside id e) ∙ sym (mapped-is p xs ss fs v i inside).lays.capacity
+        capacity_is : (xs ss fs : List ℕ) → Valid p xs ss fs → model.capacity (region_in (world_of p xs) id) ≡ g.map.capacity
+        capacity_is xs ss fs v = ap model.capacity (region_is p xs i inside id e) ∙ sym (mapped_is p xs ss fs v i inside).lays.capacity
 
-        pub publish-past : (r : Answered) (n : ℕ) → regionmap.Published g.map len r → r ≡ mapped.Refused n → Changes p (publish id len) (refusing p 23)
+        pub publish_past : (r : Answered) (n : ℕ) → regionmap.Published g.map len r → r ≡ mapped.Refused n → Changes p (publish id len) (refusing p 23)
         unfolding refusal_to first refuse
-        publish-past r n u w =
+        publish_past r n u w =
             let t : g.map.capacity < len =
-            by-lt g.map.capacity len (λ h. h)
-            (λ h. absurd (not-both _ n (sym (one_passes 23 _ _ (le-ltb _ _ h)) ∙ sym (u.answer [] []) ∙ ap (λ (q : Answered). regionmap.outcome_of q [] []) w))) in
+            by_lt g.map.capacity len (λ h. h)
+            (λ h. absurd (not_both _ n (sym (one_passes 23 _ _ (le-ltb _ _ h)) ∙ sym (u.answer [] []) ∙ ap (λ (q : Answered). regionmap.outcome_of q [] []) w))) in
             record {
               called = λ xs ss fs.
-                  called-refused p (publish id len) xs ss fs 23
+                  called_refused p (publish id len) xs ss fs 23
                   (λ v.
-                  let k = known-here p xs id i m e a l in
-                  let c = capacity-is xs ss fs v in
+                  let k = known_here p xs id i m e a l in
+                  let c = capacity_is xs ss fs v in
                   let q : model.capacity (region_in (world_of p xs) id) < len = omega arith in
                   (simp (k, eq-eqb _ _ (multiple xs ss fs v), lt-ltb _ _ q), λ y. omega arith));
             }
@@ -101,7 +101,7 @@ module _ (p : Plan) (id len i m : ℕ) (e : i ≡ spot_of p id) (a : m ≡ lengt
           placed : (ss fs : List ℕ) → (g.map.capacity < len → ⊥) × (regionmap.published (regionmap.placement_of g.map ss fs) len ≡ regionmap.placement_of next ss fs)
           unfolding refuse
           placed ss fs =
-              let q = accepted-is _ _ _ (sym (u.answer ss fs)) in
+              let q = accepted_is _ _ _ (sym (u.answer ss fs)) in
               (λ h. let n : refuse 23 (ltb g.map.capacity len) ≡ 23 = simp (lt-ltb _ _ h) in omega (arith, q.0), q.1)
 
           abbrev g' : Region
@@ -129,13 +129,13 @@ module _ (p : Plan) (id len i m : ℕ) (e : i ≡ spot_of p id) (a : m ≡ lengt
 
           mapped_next : (xs ss fs : List ℕ) → Valid p xs ss fs → Mapped xs ss fs g'
           mapped_next xs ss fs v =
-              let t = mapped-is p xs ss fs v i inside in
+              let t = mapped_is p xs ss fs v i inside in
               let q = (placed (row_in g.row ss) (row_in g.row fs)).1 in
               record {
                 count = t.count;
                 room = sym (ap (λ (q : regionmap.Placement). q.room) q) ∙ t.room;
                 valid = u.valid (row_in g.row ss) (row_in g.row fs) t.valid;
-                lays = subst (λ (y : regionmap.Placement). regionmap.Lays y (region_of xs g).extents) q (lays-published _ _ len t.lays);
+                lays = subst (λ (y : regionmap.Placement). regionmap.Lays y (region_of xs g).extents) q (lays_published _ _ len t.lays);
               }
 
           module _ (more : ℕ) (n₀ : more ≡ next.len - g.map.len) (q : Posted) (o₀ : accounting.Posts p.accounts (accounting.on_row g.tag (add_usage more 0)) q) where
@@ -143,12 +143,12 @@ module _ (p : Plan) (id len i m : ℕ) (e : i ≡ spot_of p id) (a : m ≡ lengt
             o = subst (λ (n : ℕ). accounting.Posts p.accounts (accounting.on_row g.tag (add_usage n 0)) q) n₀ o₀
 
             -- the tag has a row, so nothing is refused
-            pub publish-never : (q.refusal ≡ 0 → ⊥) → Changes p (publish id len) (refusing p q.refusal)
-            publish-never n =
+            pub publish_never : (q.refusal ≡ 0 → ⊥) → Changes p (publish id len) (refusing p q.refusal)
+            publish_never n =
                 record {
                   called = λ xs ss fs.
-                      called-refused p (publish id len) xs ss fs q.refusal
-                      (λ v. absurd (n (posting-taken p xs ss fs v g.tag _ (λ r. refl) q o (row-no-full (world_of p xs) g.tag (tagged_is p xs ss fs v i inside))).number));
+                      called_refused p (publish id len) xs ss fs q.refusal
+                      (λ v. absurd (n (posting_taken p xs ss fs v g.tag _ (λ r. refl) q o (row_no_full (world_of p xs) g.tag (tagged_is p xs ss fs v i inside))).number));
                 }
 
             abbrev p' : Plan
@@ -158,45 +158,45 @@ module _ (p : Plan) (id len i m : ℕ) (e : i ≡ spot_of p id) (a : m ≡ lengt
               abbrev w : world.World
               w = world_of p xs
 
-              known-region : known w id ≡ true
-              known-region = known-here p xs id i m e a l
+              known_region : known w id ≡ true
+              known_region = known_here p xs id i m e a l
 
               taken : Taken p xs ss fs v g.tag (add_usage (next.len - g.map.len) 0) (λ r. refl) q
-              taken = posting-taken p xs ss fs v g.tag _ (λ r. refl) q o (row-no-full w g.tag (tagged_is p xs ss fs v i inside))
+              taken = posting_taken p xs ss fs v g.tag _ (λ r. refl) q o (row_no_full w g.tag (tagged_is p xs ss fs v i inside))
 
               fits : len ≤ model.capacity (region_in w id)
-              fits = by-lt g.map.capacity len (λ y. absurd ((placed [] []).0 y)) (λ y. let c = capacity-is xs ss fs v in omega arith)
+              fits = by_lt g.map.capacity len (λ y. absurd ((placed [] []).0 y)) (λ y. let c = capacity_is xs ss fs v in omega arith)
 
-              region-next : region_of xs g' ≡ published_to len (region_of xs g)
-              region-next = ap (λ (n : ℕ). model.with_data (region_of xs g).extents n g.span_start g.span_end (region_of xs g)) len_is
+              region_next : region_of xs g' ≡ published_to len (region_of xs g)
+              region_next = ap (λ (n : ℕ). model.with_data (region_of xs g).extents n g.span_start g.span_end (region_of xs g)) len_is
 
-              world-next : world_of p' xs ≡ published_at w id len
-              world-next =
-                  world-changed p xs ss fs v i inside g' q.accounts xs ss fs (λ n y z. stays_same) id (published_to len) e region-next
+              world_next : world_of p' xs ≡ published_at w id len
+              world_next =
+                  world_changed p xs ss fs v i inside g' q.accounts xs ss fs (λ n y z. stays_same) id (published_to len) e region_next
                   (rows_stay p xs ss fs v g.tag _ (λ r. refl) (tagged_is p xs ss fs v i inside) q.accounts taken.table)
 
-              logical-next : (t : ℕ) → world.logical (world_of p' xs) t ≡ world.logical w t + if_tag g.tag t (next.len - g.map.len)
-              logical-next t =
-                  let k = publish-logical w id (known-true w id known-region) len t in
-                  ap (λ (y : world.World). world.logical y t) world-next
-                  ∙ if-more g.tag t g.map.len next.len _ _ (omega (arith, len_is))
+              logical_next : (t : ℕ) → world.logical (world_of p' xs) t ≡ world.logical w t + if_tag g.tag t (next.len - g.map.len)
+              logical_next t =
+                  let k = publish_logical w id (known_true w id known_region) len t in
+                  ap (λ (y : world.World). world.logical y t) world_next
+                  ∙ if_more g.tag t g.map.len next.len _ _ (omega (arith, len_is))
                   (rw len_is
                   (subst (λ (r : model.Region). world.logical (published_at w id len) t + if_tag r.tag t r.published ≡ world.logical w t + if_tag r.tag t (max r.published len))
-                  (region-is p xs i inside id e) k))
+                  (region_is p xs i inside id e) k))
 
               accepts : Accepts p (publish id len) xs ss fs xs ss fs Done p' v
               unfolding refusal_to first refuse byte_for accept
               accepts =
                   record {
-                    passes = simp (known-region, eq-eqb _ _ (multiple xs ss fs v), le-ltb _ _ fits);
+                    passes = simp (known_region, eq-eqb _ _ (multiple xs ss fs v), le-ltb _ _ fits);
                     byte = refl;
-                    world = world-next;
+                    world = world_next;
                     valid = λ s.
-                        changed-valid p xs ss fs v i inside g' q.accounts xs ss fs (λ n y z. stays_same) refl (mapped_next xs ss fs v) v.extents v.starts v.files
+                        changed_valid p xs ss fs v i inside g' q.accounts xs ss fs (λ n y z. stays_same) refl (mapped_next xs ss fs v) v.extents v.starts v.files
                         taken.valid
-                        (accounted-added p xs ss fs v g.tag (next.len - g.map.len) 0 p' xs (ap (λ (y : accounting.Table). y.rows) taken.table) logical-next
-                        (λ t. ap (λ (y : world.World). world.physical y t) world-next ∙ publish-physical w id (known-true w id known-region) len t ∙ if_none g.tag t _) s) s;
+                        (accounted_added p xs ss fs v g.tag (next.len - g.map.len) 0 p' xs (ap (λ (y : accounting.Table). y.rows) taken.table) logical_next
+                        (λ t. ap (λ (y : world.World). world.physical y t) world_next ∙ publish_physical w id (known_true w id known_region) len t ∙ if_none g.tag t _) s) s;
                   }
 
-            pub publish-done : q.refusal ≡ 0 → Changes p (publish id len) (record { reply = Done; plan = p' })
-            publish-done n = record { called = λ xs ss fs. called-accepted p (publish id len) xs ss fs xs ss fs Done p' done-no-refusal (accepts xs ss fs) }
+            pub publish_done : q.refusal ≡ 0 → Changes p (publish id len) (record { reply = Done; plan = p' })
+            publish_done n = record { called = λ xs ss fs. called_accepted p (publish id len) xs ss fs xs ss fs Done p' done_no_refusal (accepts xs ss fs) }

@@ -17,19 +17,19 @@ use Rattle.plan_record.specs.declared.Reply.TheVariants.{Refused, Done, At}
 use Rattle.plan.specs.Calls.{Called, Leaves}
 use Rattle.plan.specs.Inner.{refusing}
 use Rattle.model.proofs.Sound.{Sound}
-use Rattle.model.proofs.Steps.{next-accepted, next-refused, next-sound}
-use Rattle.numbers.proofs.Answers.{answer-value, answer-number}
+use Rattle.model.proofs.Steps.{next_accepted, next_refused, next_sound}
+use Rattle.numbers.proofs.Answers.{answer_value, answer_number}
 use Rattle.numbers.proofs.Cases.{clash, or-false}
 use Rattle.numbers.proofs.Pairs.{length_pairs}
 
 module _ (p : Plan) (c : Call) (xs ss fs : List ℕ) where
   -- the model refuses it too
-  pub called-refused : (n : ℕ) → (Valid p xs ss fs → (refusal_to (world_of p xs) c ≡ n) × (n ≡ 0 → ⊥)) → Called p c xs ss fs xs ss fs (refusing p n)
-  called-refused n f =
+  pub called_refused : (n : ℕ) → (Valid p xs ss fs → (refusal_to (world_of p xs) c ≡ n) × (n ≡ 0 → ⊥)) → Called p c xs ss fs xs ss fs (refusing p n)
+  called_refused n f =
       record {
-        answer = λ v. let q = f v in rw q.0 (sym (answer-number n _ q.1));
+        answer = λ v. let q = f v in rw q.0 (sym (answer_number n _ q.1));
         valid = λ v. v;
-        world = λ v. let q = f v in sym (next-refused (world_of p xs) c (λ z. q.1 (sym q.0 ∙ z)));
+        world = λ v. let q = f v in sym (next_refused (world_of p xs) c (λ z. q.1 (sym q.0 ∙ z)));
         refused = λ m e. (refl, refl, refl, refl);
       }
 
@@ -41,40 +41,40 @@ module _ (p : Plan) (c : Call) (xs₀ ss₀ fs₀ xs ss fs : List ℕ) (r : Repl
     pub world : world_of q xs ≡ accept (world_of p xs₀) c
     pub valid : Sound (world_of q xs) → Valid q xs ss fs
 
-  pub called-accepted : ((n : ℕ) → r ≡ Refused n → ⊥) → ((v : Valid p xs₀ ss₀ fs₀) → Accepts v) → Called p c xs₀ ss₀ fs₀ xs ss fs (record { reply = r; plan = q })
-  called-accepted d f =
+  pub called_accepted : ((n : ℕ) → r ≡ Refused n → ⊥) → ((v : Valid p xs₀ ss₀ fs₀) → Accepts v) → Called p c xs₀ ss₀ fs₀ xs ss fs (record { reply = r; plan = q })
+  called_accepted d f =
       record {
-        answer = λ v. let a = f v in a.byte ∙ sym (answer-value _ _ a.passes);
+        answer = λ v. let a = f v in a.byte ∙ sym (answer_value _ _ a.passes);
         valid = λ v.
             let a = f v in
-            a.valid (subst Sound (sym (a.world ∙ sym (next-accepted (world_of p xs₀) c a.passes))) (next-sound (world_of p xs₀) v.sound c));
-        world = λ v. let a = f v in a.world ∙ sym (next-accepted (world_of p xs₀) c a.passes);
+            a.valid (subst Sound (sym (a.world ∙ sym (next_accepted (world_of p xs₀) c a.passes))) (next_sound (world_of p xs₀) v.sound c));
+        world = λ v. let a = f v in a.world ∙ sym (next_accepted (world_of p xs₀) c a.passes);
         refused = λ n e. absurd (d n e);
       }
 
-pub done-no-refusal : (n : ℕ) → Done ≡ Refused n → ⊥
-done-no-refusal n e = let z : ◌≡◌ {A = ℕ} 0 1 = cc in omega arith
+pub done_no_refusal : (n : ℕ) → Done ≡ Refused n → ⊥
+done_no_refusal n e = let z : ◌≡◌ {A = ℕ} 0 1 = cc in omega arith
 
-pub at-no-refusal : (a n : ℕ) → At a ≡ Refused n → ⊥
-at-no-refusal a n e = let z : ◌≡◌ {A = ℕ} 0 1 = cc in omega arith
+pub at_no_refusal : (a n : ℕ) → At a ≡ Refused n → ⊥
+at_no_refusal a n e = let z : ◌≡◌ {A = ℕ} 0 1 = cc in omega arith
 
 -- ---- lists that are too short
 
 module _ (xs ss fs : List ℕ) where
-  pub short-is : lists_short xs ss fs ≡ (ltb (length xs / 2) 3840 || ltb (length ss) 3840 || ltb (length fs) 3840)
+  pub short_is : lists_short xs ss fs ≡ (ltb (length xs / 2) 3840 || ltb (length ss) 3840 || ltb (length fs) 3840)
   unfolding lists_short
-  short-is = rw (length_pairs xs)
+  short_is = rw (length_pairs xs)
 
   -- lists that are not
-  pub long-lists : (b : Bool) → b ≡ (ltb (length xs / 2) 3840 || ltb (length ss) 3840 || ltb (length fs) 3840) → b ≡ false → (places ≤ length ss) × (places ≤ length fs) × (3840 ≤ length xs / 2)
-  long-lists b e z =
+  pub long_lists : (b : Bool) → b ≡ (ltb (length xs / 2) 3840 || ltb (length ss) 3840 || ltb (length fs) 3840) → b ≡ false → (places ≤ length ss) × (places ≤ length fs) × (3840 ≤ length xs / 2)
+  long_lists b e z =
       let a = or-false _ _ (sym e ∙ z) in
       let d = or-false _ _ a.0 in
       (ltb-false _ _ d.1, ltb-false _ _ a.1, ltb-false _ _ d.0)
 
-  pub valid-long : (p : Plan) → Valid p xs ss fs → lists_short xs ss fs ≡ false
+  pub valid_long : (p : Plan) → Valid p xs ss fs → lists_short xs ss fs ≡ false
   unfolding lists_short
-  valid-long p v = simp (le-ltb _ _ v.extents, le-ltb _ _ v.starts, le-ltb _ _ v.files)
+  valid_long p v = simp (le-ltb _ _ v.extents, le-ltb _ _ v.starts, le-ltb _ _ v.files)
 
 -- a call that leaves the lists
 pub leaves : {p : Plan} {c : Call} {xs ss fs : List ℕ} {r : Outcome} → Called p c xs ss fs xs ss fs r → (lists_short xs ss fs ≡ true → r.reply ≡ Refused 1)
@@ -82,8 +82,8 @@ pub leaves : {p : Plan} {c : Call} {xs ss fs : List ℕ} {r : Outcome} → Calle
 leaves k s = record { called = k; extents = refl; starts = refl; files = refl; short = s }
 
 -- 1 before every other number
-pub leaves-short : (p : Plan) (c : Call) (xs ss fs : List ℕ) → lists_short xs ss fs ≡ true → Leaves p c xs ss fs xs ss fs (refusing p 1)
-leaves-short p c xs ss fs s = leaves (called-refused p c xs ss fs 1 (λ v. clash s (valid-long xs ss fs p v))) (λ e. refl)
+pub leaves_short : (p : Plan) (c : Call) (xs ss fs : List ℕ) → lists_short xs ss fs ≡ true → Leaves p c xs ss fs xs ss fs (refusing p 1)
+leaves_short p c xs ss fs s = leaves (called_refused p c xs ss fs 1 (λ v. clash s (valid_long xs ss fs p v))) (λ e. refl)
 
-pub leaves-long : {p : Plan} {c : Call} {xs ss fs : List ℕ} {r : Outcome} → lists_short xs ss fs ≡ false → Called p c xs ss fs xs ss fs r → Leaves p c xs ss fs xs ss fs r
-leaves-long s k = leaves k (λ e. clash e s)
+pub leaves_long : {p : Plan} {c : Call} {xs ss fs : List ℕ} {r : Outcome} → lists_short xs ss fs ≡ false → Called p c xs ss fs xs ss fs r → Leaves p c xs ss fs xs ss fs r
+leaves_long s k = leaves k (λ e. clash e s)

@@ -10,7 +10,7 @@ use Rattle.plan_record.specs.Plan.{world_of, Valid}
 use Rattle.plan_record.specs.Promises.{Fits}
 use Rattle.plan_record.specs.declared.Plan.{Plan}
 use Rattle.plan.specs.Inner.{Seeks}
-use Rattle.numbers.proofs.Answers.{same-value, not-both}
+use Rattle.numbers.proofs.Answers.{same_value, not_both}
 use Rattle.numbers.proofs.Cases.{clash}
 use Rattle.freemap.specs.Fit as freemap
 use Rattle.freemap.specs.declared.Fit.TheVariants as fit
@@ -19,23 +19,23 @@ module _ (p : Plan) (n : ℕ) (xs : List ℕ) (r : Fit) (g : Fits p n xs r) wher
   least : (ss fs : List ℕ) → Valid p xs ss fs → 0 < n → (s : Fit) → r ≡ s → freemap.place_of s ≡ accepted (least_free (world_of p xs) n)
   least ss fs v h s e = ap freemap.place_of (sym e) ∙ g.told ss fs v h
 
-  pub seeks-at : (a : ℕ) → r ≡ fit.At a → Seeks p n xs true a
-  seeks-at a e =
+  pub seeks_at : (a : ℕ) → r ≡ fit.At a → Seeks p n xs true a
+  seeks_at a e =
       record {
-        there = λ ss fs v h f. sym (same-value _ _ (least ss fs v h (fit.At a) e));
+        there = λ ss fs v h f. sym (same_value _ _ (least ss fs v h (fit.At a) e));
         nowhere = λ ss fs v h f. clash {b = true} refl f;
       }
 
-  pub seeks-nothing : r ≡ fit.Nothing → Seeks p n xs false 0
-  seeks-nothing e =
+  pub seeks_nothing : r ≡ fit.Nothing → Seeks p n xs false 0
+  seeks_nothing e =
       record {
         there = λ ss fs v h f. clash {b = false} f refl;
-        nowhere = λ ss fs v h f. sym (same-value _ _ (least ss fs v h fit.Nothing e));
+        nowhere = λ ss fs v h f. sym (same_value _ _ (least ss fs v h fit.Nothing e));
       }
 
-  pub seeks-refused : (k : ℕ) → r ≡ fit.Refused k → Seeks p n xs false 0
-  seeks-refused k e =
+  pub seeks_refused : (k : ℕ) → r ≡ fit.Refused k → Seeks p n xs false 0
+  seeks_refused k e =
       record {
         there = λ ss fs v h f. clash {b = false} f refl;
-        nowhere = λ ss fs v h f. absurd (not-both _ k (sym (least ss fs v h (fit.Refused k) e)));
+        nowhere = λ ss fs v h f. absurd (not_both _ k (sym (least ss fs v h (fit.Refused k) e)));
       }

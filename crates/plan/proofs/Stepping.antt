@@ -26,21 +26,21 @@ abbrev pub table : List ℕ
 table =
     16 ∷ 16 ∷ 32 ∷ 32 ∷ 64 ∷ 64 ∷ 128 ∷ 128 ∷ 256 ∷ 256 ∷ 512 ∷ 512 ∷ 1024 ∷ 1024 ∷ 2048 ∷ 2048 ∷ 4096 ∷ 4096 ∷ 8192 ∷ 8192 ∷ 16384 ∷ 16384 ∷ 32768 ∷ 32768 ∷ []
 
-table-rule : table ≡ map rule (counting 0 24)
-table-rule = refl
+table_rule : table ≡ map rule (counting 0 24)
+table_rule = refl
 
 -- so each entry is the model's step
 pub table_step : (n : ℕ) → n < 24 → get_or table n 0 ≡ step n
 unfolding step
-table_step n h = ap (λ (l : List ℕ). get_or l n 0) table-rule ∙ counted rule 0 24 n h ∙ sym (simp (le-leb n 23 (omega arith)) (ap rule (omega arith)))
+table_step n h = ap (λ (l : List ℕ). get_or l n 0) table_rule ∙ counted rule 0 24 n h ∙ sym (simp (le-leb n 23 (omega arith)) (ap rule (omega arith)))
 
-pub table-most : (n : ℕ) → n < 24 → get_or table n 0 ≤ 32768
+pub table_most : (n : ℕ) → n < 24 → get_or table n 0 ≤ 32768
 unfolding step
-table-most n h =
+table_most n h =
     let m : 2 ^ (n / 2) ≤ 2 ^ 11 = pow_mono (let l : n / 2 ≤ 11 = omega arith in l) in
     let e : step n ≡ rule n = simp (le-leb n 23 (omega arith)) in
     omega (arith, table_step n h)
 
-pub step-above : (n : ℕ) → 24 ≤ n → 32768 ≡ step n
+pub step_above : (n : ℕ) → 24 ≤ n → 32768 ≡ step n
 unfolding step
-step-above n h = sym (simp (lt-leb n 23 (omega arith)))
+step_above n h = sym (simp (lt-leb n 23 (omega arith)))

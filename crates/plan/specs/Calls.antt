@@ -34,7 +34,7 @@ abbrev pub OnePlace : {A : Type 0} → ℕ → List A → List A → Type 0
 OnePlace {A} row l₀ l = (l ≡ l₀) ⊎ ((k : ℕ) × (v : A) × (k < 60) × (l ≡ set l₀ (60 * row + k) v))
 
 -- Of grow, on every record: the row is that of the region in the plan handed back, so that slots behind the 64 rows keep their content
--- (`place-behind` of proofs/Slots).
+-- (`place_behind` of proofs/Slots).
 pub record Grows (p : Plan) (c : Call) (id : ℕ) (xs₀ ss₀ fs₀ xs ss fs : List ℕ) (r : Outcome) : Type 0 where
   pub called : Called p c xs₀ ss₀ fs₀ xs ss fs r
   pub short : lists_short xs₀ ss₀ fs₀ ≡ true → r.reply ≡ Refused 1

@@ -9,77 +9,77 @@ use Rattle.model.specs.Open.{Opening, lists_fail_in, logs_fail_in, length_fails,
 use Rattle.numbers.specs.Lists.{All}
 use Rattle.numbers.specs.Refusals.{refuse, first}
 use Rattle.plan_checks.specs.Early.{AllLogs, early_refusal}
-use Rattle.model.proofs.Opening.{ListsIn, lists-pass, lists-fine, logs-pass, logs-fine, checks}
+use Rattle.model.proofs.Opening.{ListsIn, lists_pass, lists_fine, logs_pass, logs_fine, checks}
 use Rattle.model.proofs.Refused.{Past, shared_in, marked_in}
 use Rattle.numbers.proofs.Cases.{cases}
-use Rattle.numbers.proofs.Refusals.{first_one, first-stop, first-go, first-none, first-all, refuse-none}
+use Rattle.numbers.proofs.Refusals.{first_one, first_stop, first_go, first_none, first_all, refuse_none}
 
 module _ (o : Opening) where
   abbrev logs : Type 0
   logs = AllLogs o.limits o.records
 
-  lists-failed : (ListsIn o → ⊥) → lists_fail_in o ≡ true
-  lists-failed d = cases (lists_fail_in o) (λ t. t) (λ f. absurd (d (lists-pass o f)))
+  lists_failed : (ListsIn o → ⊥) → lists_fail_in o ≡ true
+  lists_failed d = cases (lists_fail_in o) (λ t. t) (λ f. absurd (d (lists_pass o f)))
 
-  logs-failed : (logs → ⊥) → logs_fail_in o ≡ true
-  logs-failed d =
-      cases (logs_fail_in o) (λ t. t) (λ f. let l = logs-pass o f in absurd (d (record { low = l.low; high = l.high; own = l.own })))
+  logs_failed : (logs → ⊥) → logs_fail_in o ≡ true
+  logs_failed d =
+      cases (logs_fail_in o) (λ t. t) (λ f. let l = logs_pass o f in absurd (d (record { low = l.low; high = l.high; own = l.own })))
 
-  logs-passed : logs → logs_fail_in o ≡ false
-  logs-passed l = logs-fine o (record { low = l.low; high = l.high; own = l.own })
+  logs_passed : logs → logs_fail_in o ≡ false
+  logs_passed l = logs_fine o (record { low = l.low; high = l.high; own = l.own })
 
   pub past : ListsIn o → logs → length_fails o.limits ≡ false → Past o
-  past a b c = record { lists = lists-fine o a; logs = logs-passed b; size = c }
+  past a b c = record { lists = lists_fine o a; logs = logs_passed b; size = c }
 
-  pub early-1 : (ListsIn o → ⊥) → 1 ≡ early_refusal o
+  pub early_1 : (ListsIn o → ⊥) → 1 ≡ early_refusal o
   unfolding early_refusal first refuse
-  early-1 d = simp (lists-failed d)
+  early_1 d = simp (lists_failed d)
 
-  pub early-2 : ListsIn o → (logs → ⊥) → 2 ≡ early_refusal o
+  pub early_2 : ListsIn o → (logs → ⊥) → 2 ≡ early_refusal o
   unfolding early_refusal first refuse
-  early-2 a d = simp (lists-fine o a, logs-failed d)
+  early_2 a d = simp (lists_fine o a, logs_failed d)
 
-  pub early-3 : ListsIn o → logs → (length_fails o.limits ≡ false → ⊥) → 3 ≡ early_refusal o
+  pub early_3 : ListsIn o → logs → (length_fails o.limits ≡ false → ⊥) → 3 ≡ early_refusal o
   unfolding early_refusal first refuse
-  early-3 a b d =
+  early_3 a b d =
       let t : length_fails o.limits ≡ true = cases (length_fails o.limits) (λ t. t) (λ f. absurd (d f)) in
-      simp (lists-fine o a, logs-passed b, t)
+      simp (lists_fine o a, logs_passed b, t)
 
   module _ (p : Past o) (m : ℕ) (e : m ≡ first (checks o)) where
-    pub early-own : (m ≡ 0 → ⊥) → m ≡ early_refusal o
+    pub early_own : (m ≡ 0 → ⊥) → m ≡ early_refusal o
     unfolding early_refusal first refuse
-    early-own d = rw (← e) (simp (p.lists, p.logs, p.size, ne_eqb m 0 d))
+    early_own d = rw (← e) (simp (p.lists, p.logs, p.size, ne_eqb m 0 d))
 
-    pub early-14 : m ≡ 0 → true ≡ shared_in o → 14 ≡ early_refusal o
+    pub early_14 : m ≡ 0 → true ≡ shared_in o → 14 ≡ early_refusal o
     unfolding early_refusal first refuse
-    early-14 z t = rw (← e) (simp (p.lists, p.logs, p.size, z, sym t))
+    early_14 z t = rw (← e) (simp (p.lists, p.logs, p.size, z, sym t))
 
-    pub early-0 : m ≡ 0 → false ≡ shared_in o → 0 ≡ early_refusal o
+    pub early_0 : m ≡ 0 → false ≡ shared_in o → 0 ≡ early_refusal o
     unfolding early_refusal first refuse
-    early-0 z f = rw (← e) (simp (p.lists, p.logs, p.size, z, sym f))
+    early_0 z f = rw (← e) (simp (p.lists, p.logs, p.size, z, sym f))
 
   -- ---- open
 
-  pub open-early : (early_refusal o ≡ 0 → ⊥) → open_refusal o ≡ early_refusal o
+  pub open_early : (early_refusal o ≡ 0 → ⊥) → open_refusal o ≡ early_refusal o
   unfolding early_refusal open_refusal
-  open-early d = first-stop (_ ∷ _ ∷ _ ∷ _ ∷ _ ∷ []) (refuse 15 (marked_in o) ∷ []) d
+  open_early d = first_stop (_ ∷ _ ∷ _ ∷ _ ∷ _ ∷ []) (refuse 15 (marked_in o) ∷ []) d
 
-  pub open-late : early_refusal o ≡ 0 → open_refusal o ≡ refuse 15 (marked_in o)
+  pub open_late : early_refusal o ≡ 0 → open_refusal o ≡ refuse 15 (marked_in o)
   unfolding early_refusal open_refusal
-  open-late z = first-go (_ ∷ _ ∷ _ ∷ _ ∷ _ ∷ []) (refuse 15 (marked_in o) ∷ []) z ∙ first_one _
+  open_late z = first_go (_ ∷ _ ∷ _ ∷ _ ∷ _ ∷ []) (refuse 15 (marked_in o) ∷ []) z ∙ first_one _
 
   -- what has passed then
-  pub early-passed : early_refusal o ≡ 0 → Past o × All (λ (n : ℕ). n ≡ 0) (checks o)
+  pub early_passed : early_refusal o ≡ 0 → Past o × All (λ (n : ℕ). n ≡ 0) (checks o)
   unfolding early_refusal
-  early-passed z =
-      let t1 = first-none _ _ z in
-      let t2 = first-none _ _ t1.1 in
-      let t3 = first-none _ _ t2.1 in
-      let t4 = first-none _ _ t3.1 in (
+  early_passed z =
+      let t1 = first_none _ _ z in
+      let t2 = first_none _ _ t1.1 in
+      let t3 = first_none _ _ t2.1 in
+      let t4 = first_none _ _ t3.1 in (
         record {
-          lists = refuse-none 1 _ (omega arith) t1.0;
-          logs = refuse-none 2 _ (omega arith) t2.0;
-          size = refuse-none 3 _ (omega arith) t3.0;
+          lists = refuse_none 1 _ (omega arith) t1.0;
+          logs = refuse_none 2 _ (omega arith) t2.0;
+          size = refuse_none 3 _ (omega arith) t3.0;
         },
-        first-all (checks o) t4.0,
+        first_all (checks o) t4.0,
       )

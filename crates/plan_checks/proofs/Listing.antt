@@ -15,9 +15,9 @@ use Rattle.plan_checks.specs.Opening.{records_of, opening_of}
 use Rattle.plan_record.specs.declared.Record.{Record}
 use Rattle.model.proofs.Opening.{count_of, listed_by, ListsIn}
 use Rattle.numbers.proofs.Cases.{clash}
-use Rattle.numbers.proofs.Lists.{all_both, all-imp}
-use Rattle.numbers.proofs.Pairs.{length_pairs, odd-list, even-list}
-use Rattle.plan_checks.proofs.Reading.{records-length, tells-not, tells-by}
+use Rattle.numbers.proofs.Lists.{all_both, all_imp}
+use Rattle.numbers.proofs.Pairs.{length_pairs, odd_list, even_list}
+use Rattle.plan_checks.proofs.Reading.{records_length, tells_not, tells_by}
 use Rattle.model.specs.Open as model
 
 module _ (lim : Limits) (rs : List Record) (n : ℕ) (l : List ℕ) (scratch places : ℕ) where
@@ -36,52 +36,52 @@ module _ (lim : Limits) (rs : List Record) (n : ℕ) (l : List ℕ) (scratch pla
   abbrev Few : model.Record → Type 0
   Few r = (count_of r ≤ 60) × (length r.name ≤ 24)
 
-  all-within : ListsIn o → All (Within most) ms
-  all-within f =
+  all_within : ListsIn o → All (Within most) ms
+  all_within f =
       all_both Few (λ (r : model.Record). listed_by r ≤ most) (Within most) (λ r a b. record { count = a.0; name = a.1; header = b }) ms
       (all_both (λ (r : model.Record). count_of r ≤ 60) Named Few (λ r a b. (a, b)) ms f.counts f.names)
       f.headers
 
-  pub lists-many : 64 < n → Tells (ListsIn o) false
-  lists-many h = tells-not (λ f. omega (arith, h, f.few, records-length rs n))
+  pub lists_many : 64 < n → Tells (ListsIn o) false
+  lists_many h = tells_not (λ f. omega (arith, h, f.few, records_length rs n))
 
-  pub lists-odd : (length l % 2 ≡ 0 → ⊥) → Tells (ListsIn o) false
-  lists-odd d = tells-not (λ f. clash (odd-list l d) f.even)
+  pub lists_odd : (length l % 2 ≡ 0 → ⊥) → Tells (ListsIn o) false
+  lists_odd d = tells_not (λ f. clash (odd_list l d) f.even)
 
   module _ {m : ℕ} (q : m ≡ most) {fine : Bool} {listed ranges : ℕ} (t₀ : Tallied m ms fine listed ranges) where
     t : Tallied most ms fine listed ranges
     t = subst (λ (k : ℕ). Tallied k ms fine listed ranges) q t₀
 
-    pub lists-over : fine ≡ false → Tells (ListsIn o) false
-    lists-over e = tells-not (λ f. t.over e (all-within f))
+    pub lists_over : fine ≡ false → Tells (ListsIn o) false
+    lists_over e = tells_not (λ f. t.over e (all_within f))
 
     module _ (e : fine ≡ true) where
-      pub lists-other : (length l / 2 ≡ listed → ⊥) → Tells (ListsIn o) false
-      lists-other d = tells-not (λ f. d (sym (length_pairs l) ∙ f.listed ∙ sym (t.sums e).all_listed))
+      pub lists_other : (length l / 2 ≡ listed → ⊥) → Tells (ListsIn o) false
+      lists_other d = tells_not (λ f. d (sym (length_pairs l) ∙ f.listed ∙ sym (t.sums e).all_listed))
 
-      pub lists-scratch : scratch / 16 < ranges → Tells (ListsIn o) false
-      lists-scratch h = tells-not (λ f. omega (arith, h, f.scratch, (t.sums e).all-ranges))
+      pub lists_scratch : scratch / 16 < ranges → Tells (ListsIn o) false
+      lists_scratch h = tells_not (λ f. omega (arith, h, f.scratch, (t.sums e).all_ranges))
 
-      pub lists-end : n ≤ 64 → length l % 2 ≡ 0 → length l / 2 ≡ listed → ranges ≤ scratch / 16 → Tells (ListsIn o) (leb 64 places)
-      lists-end h v d s =
+      pub lists_end : n ≤ 64 → length l % 2 ≡ 0 → length l / 2 ≡ listed → ranges ≤ scratch / 16 → Tells (ListsIn o) (leb 64 places)
+      lists_end h v d s =
           let u = t.sums e in
-          tells-by (leb 64 places)
+          tells_by (leb 64 places)
           (λ b. record {
-            few = omega (arith, h, records-length rs n);
-            counts = all-imp (Within most) (λ (r : model.Record). count_of r ≤ 60) (λ r w. w.count) ms u.within;
-            names = all-imp (Within most) Named (λ r w. w.name) ms u.within;
-            headers = all-imp (Within most) (λ (r : model.Record). listed_by r ≤ most) (λ r w. w.header) ms u.within;
-            even = even-list l v;
+            few = omega (arith, h, records_length rs n);
+            counts = all_imp (Within most) (λ (r : model.Record). count_of r ≤ 60) (λ r w. w.count) ms u.within;
+            names = all_imp (Within most) Named (λ r w. w.name) ms u.within;
+            headers = all_imp (Within most) (λ (r : model.Record). listed_by r ≤ most) (λ r w. w.header) ms u.within;
+            even = even_list l v;
             listed = length_pairs l ∙ d ∙ u.all_listed;
-            scratch = omega (arith, s, u.all-ranges);
+            scratch = omega (arith, s, u.all_ranges);
             places = leb-true 64 places b;
           })
           (λ f. le-leb 64 places f.places)
 
   -- the lists are long enough for each record's check
-  pub lists-long : ListsIn o → Listed ms (length l) scratch
-  lists-long f =
+  pub lists_long : ListsIn o → Listed ms (length l) scratch
+  lists_long f =
       record { extents = omega (arith, f.listed, length_pairs l); room = omega (arith, f.scratch) }
 
-  pub lists-few : ListsIn o → n ≤ 64
-  lists-few f = omega (arith, f.few, records-length rs n)
+  pub lists_few : ListsIn o → n ≤ 64
+  lists_few f = omega (arith, f.few, records_length rs n)

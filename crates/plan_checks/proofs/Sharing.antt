@@ -10,7 +10,7 @@ use borrow.Author.Tests.{eq-eqb, ne_eqb}
 use Rattle.numbers.specs.Lists.{any}
 use Rattle.plan_checks.specs.Opening.{past_record, numbers_of}
 use Rattle.plan_record.specs.declared.Record.{Record}
-use Rattle.plan_checks.proofs.Reading.{fields-next, fields-end}
+use Rattle.plan_checks.proofs.Reading.{fields_next, fields_end}
 use Rattle.model.specs.Open as model
 
 abbrev number_of : model.Record → ℕ
@@ -22,22 +22,22 @@ pub record Seeking (rs : List Record) (n from x i : ℕ) : Type 0 where
   pub inside : i ≤ n
   pub rest : any (eqb x) (drop from (numbers_of rs n)) ≡ any (eqb x) (drop i (numbers_of rs n))
 
-pub seek-begins : (rs : List Record) (n from x : ℕ) → n ≤ 64 → from ≤ n → Seeking rs n from x from
-seek-begins rs n from x a b = record { few = a; inside = b; rest = refl }
+pub seek_begins : (rs : List Record) (n from x : ℕ) → n ≤ 64 → from ≤ n → Seeking rs n from x from
+seek_begins rs n from x a b = record { few = a; inside = b; rest = refl }
 
 module _ {rs : List Record} {n from x i : ℕ} (g : Seeking rs n from x i) where
   pub seek_found : i < n → (get_or rs i past_record).number ≡ x → true ≡ any (eqb x) (drop from (numbers_of rs n))
   unfolding any
-  seek_found h e = sym (g.rest ∙ rw (fields-next number_of rs n i h) (simp (eq-eqb x _ (sym e))))
+  seek_found h e = sym (g.rest ∙ rw (fields_next number_of rs n i h) (simp (eq-eqb x _ (sym e))))
 
-  pub seek-on : i < n → ((get_or rs i past_record).number ≡ x → ⊥) → Seeking rs n from x (i + 1)
+  pub seek_on : i < n → ((get_or rs i past_record).number ≡ x → ⊥) → Seeking rs n from x (i + 1)
   unfolding any
-  seek-on h d =
-      record { few = g.few; inside = omega arith; rest = g.rest ∙ rw (fields-next number_of rs n i h) (simp (ne_eqb x _ (λ e. d (sym e)))) }
+  seek_on h d =
+      record { few = g.few; inside = omega arith; rest = g.rest ∙ rw (fields_next number_of rs n i h) (simp (ne_eqb x _ (λ e. d (sym e)))) }
 
-  pub seek-ends : n ≤ i → false ≡ any (eqb x) (drop from (numbers_of rs n))
+  pub seek_ends : n ≤ i → false ≡ any (eqb x) (drop from (numbers_of rs n))
   unfolding any
-  seek-ends h = sym (g.rest ∙ rw (fields-end number_of rs n i h))
+  seek_ends h = sym (g.rest ∙ rw (fields_end number_of rs n i h))
 
 -- no two of the first i share a number, nor do they with a later one
 pub record Sharing (rs : List Record) (n i : ℕ) : Type 0 where
@@ -45,18 +45,18 @@ pub record Sharing (rs : List Record) (n i : ℕ) : Type 0 where
   pub inside : i ≤ n
   pub rest : model.shared (numbers_of rs n) ≡ model.shared (drop i (numbers_of rs n))
 
-pub share-begins : (rs : List Record) (n : ℕ) → n ≤ 64 → Sharing rs n 0
-share-begins rs n h = record { few = h; inside = omega arith; rest = refl }
+pub share_begins : (rs : List Record) (n : ℕ) → n ≤ 64 → Sharing rs n 0
+share_begins rs n h = record { few = h; inside = omega arith; rest = refl }
 
 module _ {rs : List Record} {n i : ℕ} (g : Sharing rs n i) where
-  pub share-found : i < n → true ≡ any (eqb (get_or rs i past_record).number) (drop (i + 1) (numbers_of rs n)) → true ≡ model.shared (numbers_of rs n)
+  pub share_found : i < n → true ≡ any (eqb (get_or rs i past_record).number) (drop (i + 1) (numbers_of rs n)) → true ≡ model.shared (numbers_of rs n)
   unfolding model.shared
-  share-found h e = sym (g.rest ∙ rw (fields-next number_of rs n i h) (simp (sym e)))
+  share_found h e = sym (g.rest ∙ rw (fields_next number_of rs n i h) (simp (sym e)))
 
-  pub share-on : i < n → false ≡ any (eqb (get_or rs i past_record).number) (drop (i + 1) (numbers_of rs n)) → Sharing rs n (i + 1)
+  pub share_on : i < n → false ≡ any (eqb (get_or rs i past_record).number) (drop (i + 1) (numbers_of rs n)) → Sharing rs n (i + 1)
   unfolding model.shared
-  share-on h e = record { few = g.few; inside = omega arith; rest = g.rest ∙ rw (fields-next number_of rs n i h) (simp (sym e)) }
+  share_on h e = record { few = g.few; inside = omega arith; rest = g.rest ∙ rw (fields_next number_of rs n i h) (simp (sym e)) }
 
-  pub share-ends : n ≤ i → false ≡ model.shared (numbers_of rs n)
+  pub share_ends : n ≤ i → false ≡ model.shared (numbers_of rs n)
   unfolding model.shared
-  share-ends h = sym (g.rest ∙ rw (fields-end number_of rs n i h))
+  share_ends h = sym (g.rest ∙ rw (fields_end number_of rs n i h))

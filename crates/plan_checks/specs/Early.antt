@@ -38,7 +38,7 @@ ranges_of r = count_of r + 2
 pub record Sums (most : ℕ) (rs : List Record) (listed ranges : ℕ) : Type 0 where
   pub within : All (Within most) rs
   pub all_listed : listed ≡ sum (map listed_by rs)
-  pub all-ranges : ranges ≡ sum (map ranges_of rs)
+  pub all_ranges : ranges ≡ sum (map ranges_of rs)
 
 pub record Tallied (most : ℕ) (rs : List Record) (fine : Bool) (listed ranges : ℕ) : Type 0 where
   pub sums : fine ≡ true → Sums most rs listed ranges

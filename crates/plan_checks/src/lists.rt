@@ -19,6 +19,7 @@ struct Sums {
 }
 
 // Whether a record's counts are within their limits.
+#[tactic(auto, using(crate::proofs::Tallying::over_count, crate::proofs::Tallying::over_name, crate::proofs::Tallying::within_rest))]
 fn within(one: Record, most: usize) -> bool
     ensures { Tells (Within most (record_of one)) result }
 {

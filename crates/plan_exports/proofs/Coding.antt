@@ -12,17 +12,17 @@ use Rattle.numbers.proofs.Cases.{clash}
 use Rattle.model.specs.Calls as model
 
 module _ {code id number tag : ℕ} {name : List ℕ} {p : Plan} {xs₀ ss₀ fs₀ xs ss fs : List ℕ} {r : Outcome} where
-  pub by-create : code ≡ 0 → Leaves p (model.create id tag name) xs₀ ss₀ fs₀ xs ss fs r
+  pub by_create : code ≡ 0 → Leaves p (model.create id tag name) xs₀ ss₀ fs₀ xs ss fs r
       → Calls code id number tag name p xs₀ ss₀ fs₀ xs ss fs r
-  by-create z h = record { created = λ e. h; grown = λ e. clash e (rw z refl); published = λ e. clash e (rw z refl); dropped = λ e. clash (rw z refl) e }
+  by_create z h = record { created = λ e. h; grown = λ e. clash e (rw z refl); published = λ e. clash e (rw z refl); dropped = λ e. clash (rw z refl) e }
 
-  pub by-grow : code ≡ 1 → Grows p (model.grow id) id xs₀ ss₀ fs₀ xs ss fs r → Calls code id number tag name p xs₀ ss₀ fs₀ xs ss fs r
-  by-grow z h = record { created = λ e. clash e (rw z refl); grown = λ e. h; published = λ e. clash e (rw z refl); dropped = λ e. clash (rw z refl) e }
+  pub by_grow : code ≡ 1 → Grows p (model.grow id) id xs₀ ss₀ fs₀ xs ss fs r → Calls code id number tag name p xs₀ ss₀ fs₀ xs ss fs r
+  by_grow z h = record { created = λ e. clash e (rw z refl); grown = λ e. h; published = λ e. clash e (rw z refl); dropped = λ e. clash (rw z refl) e }
 
-  pub by-drop : eqb code 0 ≡ false → eqb code 1 ≡ false → eqb code 2 ≡ false → Leaves p (model.drop id) xs₀ ss₀ fs₀ xs ss fs r
+  pub by_drop : eqb code 0 ≡ false → eqb code 1 ≡ false → eqb code 2 ≡ false → Leaves p (model.drop id) xs₀ ss₀ fs₀ xs ss fs r
       → Calls code id number tag name p xs₀ ss₀ fs₀ xs ss fs r
-  by-drop a b c h = record { created = λ e. clash e a; grown = λ e. clash e b; published = λ e. clash e c; dropped = λ e. h }
+  by_drop a b c h = record { created = λ e. clash e a; grown = λ e. clash e b; published = λ e. clash e c; dropped = λ e. h }
 
 module _ {code id number tag : ℕ} {name : List ℕ} {p : Plan} {xs ss fs : List ℕ} {r : Outcome} where
-  pub by-publish : code ≡ 2 → Changes p (model.publish id number) r → Calls code id number tag name p xs ss fs xs ss fs r
-  by-publish z h = record { created = λ e. clash e (rw z refl); grown = λ e. clash e (rw z refl); published = λ e. (h, refl, refl, refl); dropped = λ e. clash (rw z refl) e }
+  pub by_publish : code ≡ 2 → Changes p (model.publish id number) r → Calls code id number tag name p xs ss fs xs ss fs r
+  by_publish z h = record { created = λ e. clash e (rw z refl); grown = λ e. clash e (rw z refl); published = λ e. (h, refl, refl, refl); dropped = λ e. clash (rw z refl) e }

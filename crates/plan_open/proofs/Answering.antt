@@ -14,7 +14,7 @@ use Rattle.plan_record.specs.Plan.{blank_plan}
 use Rattle.plan_record.specs.declared.Plan.{Plan}
 use Rattle.plan_record.specs.declared.Record.{Record}
 use Rattle.plan_record.specs.declared.Reply.TheVariants.{Done, Refused}
-use Rattle.numbers.proofs.Answers.{answer-value, answer-number}
+use Rattle.numbers.proofs.Answers.{answer_value, answer_number}
 use Rattle.numbers.proofs.Pairs.{length_pairs}
 use Rattle.plan_checks.specs.Opening as checked
 
@@ -33,27 +33,27 @@ module _ (lim : Limits) (rs : List Record) (n : ℕ) (l s xs ss fs : List ℕ) (
   pub accepts : number ≡ 0 → Accepted lim rs n l xs ss fs
   accepts z = record { scratch = length s; none = sym number_is ∙ z }
 
-  pub open-refused : (number ≡ 0 → ⊥) → (b : Plan) → b ≡ blank_plan → Opens o xs xs ss ss fs fs (record { reply = Refused number; plan = b })
-  open-refused d b q =
+  pub open_refused : (number ≡ 0 → ⊥) → (b : Plan) → b ≡ blank_plan → Opens o xs xs ss ss fs fs (record { reply = Refused number; plan = b })
+  open_refused d b q =
       record {
-        answer = ap refused number_is ∙ sym (answer-number (open_refusal o) none (λ z. d (number_is ∙ z)));
+        answer = ap refused number_is ∙ sym (answer_number (open_refusal o) none (λ z. d (number_is ∙ z)));
         valid = never_done number;
         world = never_done number;
         kept = λ m h. (q, refl, refl, refl);
-        behind-extents = refl;
-        behind-starts = refl;
-        behind-files = refl;
+        behind_extents = refl;
+        behind_starts = refl;
+        behind_files = refl;
       }
 
-  pub open-accepted : number ≡ 0 → (xs' ss' fs' : List ℕ) (b : Plan) → Built lim rs n l xs xs' ss ss' fs fs' b
+  pub open_accepted : number ≡ 0 → (xs' ss' fs' : List ℕ) (b : Plan) → Built lim rs n l xs xs' ss ss' fs fs' b
       → Opens o xs xs' ss ss' fs fs' (record { reply = Done; plan = b })
-  open-accepted z xs' ss' fs' b q =
+  open_accepted z xs' ss' fs' b q =
       record {
-        answer = sym (answer-value (open_refusal o) none (sym number_is ∙ z));
+        answer = sym (answer_value (open_refusal o) none (sym number_is ∙ z));
         valid = λ h. q.valid;
         world = λ h. q.world (length s) 0;
         kept = λ m h. never_done m (sym h);
-        behind-extents = q.extents.behind;
-        behind-starts = q.starts.behind;
-        behind-files = q.files.behind;
+        behind_extents = q.extents.behind;
+        behind_starts = q.starts.behind;
+        behind_files = q.files.behind;
       }

@@ -14,11 +14,11 @@ use Rattle.plan_open.specs.Rows.{Roomy, RoomyMap, Mappable, RowMap}
 use Rattle.regionmap.specs.Map.{Placement, placement_of, too_few, extents_fail, passes_top, from_refusal, placed, Made, room_refusal, with_room, Roomed}
 use Rattle.regionmap.specs.declared.Mapped.TheVariants.{Map, Refused}
 use Rattle.regionmap.specs.declared.RegionMap.{RegionMap}
-use Rattle.numbers.proofs.Answers.{accepted-is, refused-is}
-use Rattle.numbers.proofs.Lists.{all-imp}
-use Rattle.numbers.proofs.Refusals.{none_first, pass-none, each_none}
-use Rattle.regionmap.proofs.Bytes.{lays-placed, lays-roomed}
-use Rattle.regionmap.proofs.Extents.{runs-few}
+use Rattle.numbers.proofs.Answers.{accepted_is, refused_is}
+use Rattle.numbers.proofs.Lists.{all_imp}
+use Rattle.numbers.proofs.Refusals.{none_first, pass_none, each_none}
+use Rattle.regionmap.proofs.Bytes.{lays_placed, lays_roomed}
+use Rattle.regionmap.proofs.Extents.{runs_few}
 
 -- ---- room for 60
 
@@ -27,11 +27,11 @@ module _ (m : RegionMap) (ss fs : List ℕ) (g : Roomy m ss fs) where
   unfolding room_refusal too_few
   goes =
       let e : max m.room 60 ≡ 60 = omega (arith, g.room) in
-      pass-none 1 _ (rw (e, g.starts, g.files))
+      pass_none 1 _ (rw (e, g.starts, g.files))
 
-  pub roomy-map : (r : RegionMap) → Roomed m 60 ss fs (Map r) → RoomyMap m ss fs r
-  roomy-map r h =
-      let q = accepted-is (room_refusal (placement_of m ss fs) 60 ss fs) (with_room (placement_of m ss fs) 60) (placement_of r ss fs) (sym h.answer) in
+  pub roomy_map : (r : RegionMap) → Roomed m 60 ss fs (Map r) → RoomyMap m ss fs r
+  roomy_map r h =
+      let q = accepted_is (room_refusal (placement_of m ss fs) 60 ss fs) (with_room (placement_of m ss fs) 60) (placement_of r ss fs) (sym h.answer) in
       let e : max m.room 60 ≡ 60 = omega (arith, g.room) in
       record {
         valid = h.valid g.valid;
@@ -39,37 +39,37 @@ module _ (m : RegionMap) (ss fs : List ℕ) (g : Roomy m ss fs) where
         room = ap (λ (p : Placement). p.room) (sym q.1) ∙ e;
       }
 
-  pub roomy-never : {P : Type 0} (n : ℕ) → Roomed m 60 ss fs (Refused n) → P
-  roomy-never n h =
-      let q = refused-is (room_refusal (placement_of m ss fs) 60 ss fs) (with_room (placement_of m ss fs) 60) n (sym h.answer) in
+  pub roomy_never : {P : Type 0} (n : ℕ) → Roomed m 60 ss fs (Refused n) → P
+  roomy_never n h =
+      let q = refused_is (room_refusal (placement_of m ss fs) 60 ss fs) (with_room (placement_of m ss fs) 60) n (sym h.answer) in
       absurd (q.1 (sym q.0 ∙ goes))
 
 -- ---- a map in a row
 
 module _ (xs : List ℕ) (len : ℕ) (ss₀ ss fs₀ fs : List ℕ) (g : Mappable xs len ss₀ fs₀) (s : length ss ≡ length ss₀) (f : length fs ≡ length fs₀) where
   module _ (m : RegionMap) (h : Made xs len ss₀ ss fs₀ fs (Map m)) where
-    made-is : placed (pairs xs) len ≡ placement_of m ss fs
-    made-is = (accepted-is (from_refusal xs len ss₀ fs₀) (placed (pairs xs) len) (placement_of m ss fs) (sym h.answer)).1
+    made_is : placed (pairs xs) len ≡ placement_of m ss fs
+    made_is = (accepted_is (from_refusal xs len ss₀ fs₀) (placed (pairs xs) len) (placement_of m ss fs) (sym h.answer)).1
 
-    pub map-roomy : Roomy m ss fs
-    map-roomy =
-        let e = ap (λ (p : Placement). p.room) made-is in
-        let k = runs-few (pairs xs) in
+    pub map_roomy : Roomy m ss fs
+    map_roomy =
+        let e = ap (λ (p : Placement). p.room) made_is in
+        let k = runs_few (pairs xs) in
         record { valid = h.valid; room = omega (arith, g.few); starts = s ∙ g.starts; files = f ∙ g.files }
 
-    pub row-map : (r : RegionMap) → RoomyMap m ss fs r → RowMap (pairs xs) len ss fs r
-    row-map r q =
-        let e : placement_of r ss fs ≡ with_room (placed (pairs xs) len) 60 = q.same ∙ ap (λ (p : Placement). with_room p 60) (sym made-is) in
+    pub row_map : (r : RegionMap) → RoomyMap m ss fs r → RowMap (pairs xs) len ss fs r
+    row_map r q =
+        let e : placement_of r ss fs ≡ with_room (placed (pairs xs) len) 60 = q.same ∙ ap (λ (p : Placement). with_room p 60) (sym made_is) in
         record {
           room = q.room;
           valid = q.valid;
-          lays = rw e (lays-roomed (placed (pairs xs) len) (pairs xs) 60 (lays-placed (pairs xs) len));
+          lays = rw e (lays_roomed (placed (pairs xs) len) (pairs xs) 60 (lays_placed (pairs xs) len));
           size = ap (λ (p : Placement). p.len) e;
         }
 
-  pub map-never : {P : Type 0} (n : ℕ) → Made xs len ss₀ ss fs₀ fs (Refused n) → P
-  map-never n h =
-      let q = refused-is (from_refusal xs len ss₀ fs₀) (placed (pairs xs) len) n (sym h.answer) in
+  pub map_never : {P : Type 0} (n : ℕ) → Made xs len ss₀ ss fs₀ fs (Refused n) → P
+  map_never n h =
+      let q = refused_is (from_refusal xs len ss₀ fs₀) (placed (pairs xs) len) n (sym h.answer) in
       absurd (q.1 (sym q.0 ∙ g.none))
 
 -- what makes extents mappable
@@ -80,10 +80,10 @@ mappable xs len ss fs o k s f a t h =
     record {
       none =
           none_first _ (
-            pass-none 1 _ (simp (o, le-ltb 4084 (length (pairs xs)) (omega arith), le-ltb (length ss) (length (pairs xs)) (omega arith), le-ltb (length fs) (length (pairs xs)) (omega arith))),
+            pass_none 1 _ (simp (o, le-ltb 4084 (length (pairs xs)) (omega arith), le-ltb (length ss) (length (pairs xs)) (omega arith), le-ltb (length fs) (length (pairs xs)) (omega arith))),
             (
-              each_none passes_top 0 (pairs xs) (all-imp (λ (x : Range). x.offset + x.len ≤ top) (λ (x : Range). passes_top x ≡ false) (λ x e. le-ltb top (x.offset + x.len) e) (pairs xs) a) (omega arith),
-              (pass-none 23 _ (le-ltb (total (pairs xs)) len h), tt),
+              each_none passes_top 0 (pairs xs) (all_imp (λ (x : Range). x.offset + x.len ≤ top) (λ (x : Range). passes_top x ≡ false) (λ x e. le-ltb top (x.offset + x.len) e) (pairs xs) a) (omega arith),
+              (pass_none 23 _ (le-ltb (total (pairs xs)) len h), tt),
             ),
           );
       few = k;

@@ -8,12 +8,12 @@ use lib.Seq.{take-append-le, drop-append-le, take_at, drop_at, drop-drop, length
 use borrow.Rule.Slice.PartMut.{put_mid, take_put, drop_put, mid_len, same_len_mid}
 use Rattle.numbers.specs.Pairs.{pairs}
 use Rattle.plan_record.specs.Plan.{row_in}
-use Rattle.numbers.proofs.Cases.{by-lt}
-use Rattle.numbers.proofs.Pairs.{pairs-append, pairs-take, pairs-drop}
+use Rattle.numbers.proofs.Cases.{by_lt}
+use Rattle.numbers.proofs.Pairs.{pairs_append, pairs_take, pairs_drop}
 
 module _ {A : Type 0} where
-  pub put-behind : (a e m : ℕ) (xs ys : List A) → a ≤ e → e ≤ m → e ≤ length xs → length ys ≡ e - a → drop m (put_mid a (e - a) xs ys) ≡ drop m xs
-  put-behind a e m xs ys h k l q =
+  pub put_behind : (a e m : ℕ) (xs ys : List A) → a ≤ e → e ≤ m → e ≤ length xs → length ys ≡ e - a → drop m (put_mid a (e - a) xs ys) ≡ drop m xs
+  put_behind a e m xs ys h k l q =
       let f : e + (m - e) ≡ m = omega arith in
       let split : (zs : List A) → drop m zs ≡ drop (m - e) (drop e zs) = λ zs. ap (λ (j : ℕ). drop j zs) (sym f) ∙ sym (drop-drop (m - e) e zs) in
       split (put_mid a (e - a) xs ys) ∙ ap (drop (m - e)) (drop_put a e xs ys h l q) ∙ sym (split xs)
@@ -43,24 +43,24 @@ module _ {A : Type 0} where
     unfolding row_in
     row_keep j d =
         let e : length ys ≡ 60 * i + 60 - 60 * i = omega arith in
-        by-lt j i
+        by_lt j i
         (λ h.
         let s : length put ≡ length xs = same_len_mid (60 * i) (60 * i + 60 - 60 * i) xs ys (e ∙ sym (mid_len (60 * i) (60 * i + 60) xs l)) in
         row_before j (60 * i) put (omega arith) (omega arith)
         ∙ ap (row_in j) (take_put (60 * i) (60 * i + 60 - 60 * i) xs ys (omega arith))
         ∙ sym (row_before j (60 * i) xs (omega arith) (omega arith)))
-        (λ h. ap (take 60) (put-behind (60 * i) (60 * i + 60) (60 * j) xs ys (omega arith) (omega (arith, d)) l e))
+        (λ h. ap (take 60) (put_behind (60 * i) (60 * i + 60) (60 * j) xs ys (omega arith) (omega (arith, d)) l e))
 
 -- the same of pairs
-pub pairs-put : (a k : ℕ) (xs ys : List ℕ) → 2 * a ≤ length xs → length ys % 2 ≡ 0 → pairs (put_mid (2 * a) (2 * k) xs ys) ≡ put_mid a k (pairs xs) (pairs ys)
-pairs-put a k xs ys h e =
+pub pairs_put : (a k : ℕ) (xs ys : List ℕ) → 2 * a ≤ length xs → length ys % 2 ≡ 0 → pairs (put_mid (2 * a) (2 * k) xs ys) ≡ put_mid a k (pairs xs) (pairs ys)
+pairs_put a k xs ys h e =
     let l = length-take-le (2 * a) xs h in
-    pairs-append (take (2 * a) xs) (ys ++ drop (2 * k) (drop (2 * a) xs)) (omega arith)
-    ∙ rw (pairs-append ys (drop (2 * k) (drop (2 * a) xs)) e, pairs-take a xs, pairs-drop k (drop (2 * a) xs), pairs-drop a xs)
+    pairs_append (take (2 * a) xs) (ys ++ drop (2 * k) (drop (2 * a) xs)) (omega arith)
+    ∙ rw (pairs_append ys (drop (2 * k) (drop (2 * a) xs)) e, pairs_take a xs, pairs_drop k (drop (2 * a) xs), pairs_drop a xs)
 
-pub pair-rows : (i : ℕ) (xs ys : List ℕ) → length ys ≡ 120 → 120 * i ≤ length xs
+pub pair_rows : (i : ℕ) (xs ys : List ℕ) → length ys ≡ 120 → 120 * i ≤ length xs
     → pairs (put_mid (120 * i) (120 * i + 120 - 120 * i) xs ys) ≡ put_mid (60 * i) (60 * i + 60 - 60 * i) (pairs xs) (pairs ys)
-pair-rows i xs ys q h =
+pair_rows i xs ys q h =
     let a : 120 * i ≡ 2 * (60 * i) = omega arith in
     let b : 120 * i + 120 - 120 * i ≡ 2 * (60 * i + 60 - 60 * i) = omega arith in
-    rw (b, a) (pairs-put (60 * i) (60 * i + 60 - 60 * i) xs ys (omega arith) (omega arith))
+    rw (b, a) (pairs_put (60 * i) (60 * i + 60 - 60 * i) xs ys (omega arith) (omega arith))

@@ -14,7 +14,7 @@ use Rattle.plan_record.specs.declared.Record.{Record}
 use Rattle.plan_record.specs.declared.Region.{Region}
 use Rattle.regionmap.specs.declared.RegionMap.{RegionMap}
 use Rattle.model.proofs.Opening.{count_of}
-use Rattle.numbers.proofs.Pairs.{length_pairs, pairs-append, pairs-take, even-list}
+use Rattle.numbers.proofs.Pairs.{length_pairs, pairs_append, pairs_take, even_list}
 use Rattle.plan_open.proofs.Mapping.{mappable}
 use Rattle.model.specs.Open as model
 
@@ -26,26 +26,26 @@ module _ (r : model.Record) (own : List ℕ) (f : Fit r own) where
   part_length : length part ≡ 2 * count_of r
   part_length = length-take-le (2 * count_of r - 0) own (omega (arith, f.listed)) ∙ omega arith
 
-  part-pairs : pairs part ≡ committed r.entry own
-  part-pairs = let e : 2 * count_of r - 0 ≡ 2 * count_of r = omega arith in ap (λ (k : ℕ). pairs (take k own)) e ∙ pairs-take (count_of r) own
+  part_pairs : pairs part ≡ committed r.entry own
+  part_pairs = let e : 2 * count_of r - 0 ≡ 2 * count_of r = omega arith in ap (λ (k : ℕ). pairs (take k own)) e ∙ pairs_take (count_of r) own
 
-  pub part-mappable : (ss fs : List ℕ) → length ss ≡ 60 → length fs ≡ 60 → Mappable part r.entry.data_size ss fs
-  part-mappable ss fs s t =
-      let e = part-pairs in
+  pub part_mappable : (ss fs : List ℕ) → length ss ≡ 60 → length fs ≡ 60 → Mappable part r.entry.data_size ss fs
+  part_mappable ss fs s t =
+      let e = part_pairs in
       let l = part_length in
-      mappable part r.entry.data_size ss fs (even-list part (omega arith)) (rw (e, length-take) (omega (arith, f.few))) s t
+      mappable part r.entry.data_size ss fs (even_list part (omega arith)) (rw (e, length-take) (omega (arith, f.few))) s t
       (rw e f.ends)
       (rw e f.whole)
       (rw e f.size)
 
   -- copied to the front of a row
-  pub row-extents : (xs₀ xs : List ℕ) → length xs₀ ≡ 120 → xs ≡ written (take (length xs₀) part) xs₀ → take (count_of r) (pairs xs) ≡ committed r.entry own
-  row-extents xs₀ xs h e =
+  pub row_extents : (xs₀ xs : List ℕ) → length xs₀ ≡ 120 → xs ≡ written (take (length xs₀) part) xs₀ → take (count_of r) (pairs xs) ≡ committed r.entry own
+  row_extents xs₀ xs h e =
       let l = part_length in
       let w : xs ≡ written part xs₀ = e ∙ ap (λ (t : List ℕ). written t xs₀) (take_all (length xs₀) part (omega (arith, f.few))) in
-      let p : pairs xs ≡ pairs part ++ pairs (drop (length part) xs₀) = ap pairs w ∙ pairs-append part (drop (length part) xs₀) (omega arith) in
+      let p : pairs xs ≡ pairs part ++ pairs (drop (length part) xs₀) = ap pairs w ∙ pairs_append part (drop (length part) xs₀) (omega arith) in
       let k : length (pairs part) ≡ count_of r = length_pairs part ∙ omega arith in
-      ap (take (count_of r)) p ∙ take_at (pairs part) _ (count_of r) k ∙ part-pairs
+      ap (take (count_of r)) p ∙ take_at (pairs part) _ (count_of r) k ∙ part_pairs
 
 module _ (one : Record) (own : List ℕ) (f : Fit (record_of one) own) (row : ℕ) where
   -- the region as the code makes it
@@ -72,12 +72,12 @@ module _ (one : Record) (own : List ℕ) (f : Fit (record_of one) own) (row : �
   pub rowed : (xs₀ xs ss fs : List ℕ) (m : RegionMap) → length xs₀ ≡ 120 → xs ≡ written (take (length xs₀) (part (record_of one) own f)) xs₀
       → RowMap (pairs (part (record_of one) own f)) one.entry.data_size ss fs m → Rowed (record_of one) own row (pairs xs) ss fs (made m)
   rowed xs₀ xs ss fs m h e q =
-      let x = row-extents (record_of one) own f xs₀ xs h e in
+      let x = row_extents (record_of one) own f xs₀ xs h e in
       record {
         row = refl;
         means = rw (x, q.size);
         count = f.few;
         room = q.room;
         valid = q.valid;
-        lays = rw (x, ← part-pairs (record_of one) own f) q.lays;
+        lays = rw (x, ← part_pairs (record_of one) own f) q.lays;
       }

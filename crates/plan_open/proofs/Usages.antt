@@ -20,15 +20,15 @@ use Rattle.plan_open.specs.Accounts.{tag_of, size_of, len_of, usage_of, UsageIn,
 use Rattle.plan_record.specs.Plan.{cap_of}
 use Rattle.tagspace.specs.Row.{blank, add_usage}
 use Rattle.tagspace.specs.declared.TagSpace.{TagSpace}
-use Rattle.accounting.proofs.Tables.{table-accounts}
-use Rattle.accounting.proofs.Words.{few-usages, usage-row}
-use Rattle.footprint.proofs.Regular.{accepted-regular}
+use Rattle.accounting.proofs.Tables.{table_accounts}
+use Rattle.accounting.proofs.Words.{few_usages, usage_row}
+use Rattle.footprint.proofs.Regular.{accepted_regular}
 use Rattle.model.proofs.Figures.{footprint-len}
 use Rattle.model.proofs.Opening.{count_of, listed_by}
 use Rattle.model.proofs.Regions.{if_tag, sum_tag}
-use Rattle.numbers.proofs.Cases.{by-eq}
-use Rattle.numbers.proofs.Keyed.{map-put, map-keyed}
-use Rattle.numbers.proofs.Sums.{sum-append}
+use Rattle.numbers.proofs.Cases.{by_eq}
+use Rattle.numbers.proofs.Keyed.{map_put, map_keyed}
+use Rattle.numbers.proofs.Sums.{sum_append}
 use Rattle.accounting.specs.Table as accounting
 use Rattle.model.specs.Open as model
 use Rattle.model.specs.Region as model-region
@@ -36,10 +36,10 @@ use Rattle.model.specs.World as model-world
 
 -- ---- the record of the usages
 
-usages-map : (lim : Limits) (ms : List model.Record) → usages (map tag_of ms) (map size_of ms) (map (len_of lim) ms) ≡ map (usage_of lim) ms
+usages_map : (lim : Limits) (ms : List model.Record) → usages (map tag_of ms) (map size_of ms) (map (len_of lim) ms) ≡ map (usage_of lim) ms
 unfolding usages
-usages-map lim [] = refl
-usages-map lim (m ∷ ms) = ap (λ (l : List Usage). usage_of lim m ∷ l) (usages-map lim ms)
+usages_map lim [] = refl
+usages_map lim (m ∷ ms) = ap (λ (l : List Usage). usage_of lim m ∷ l) (usages_map lim ms)
 
 module _ {lim : Limits} {ms : List model.Record} {t₀ t l₀ l p₀ p : List ℕ} (u : UsageIn lim ms t₀ t l₀ l p₀ p) (n : ℕ) (e : length ms ≡ n) (few : n ≤ 64) where
   -- the front of a list, as the code takes it
@@ -54,36 +54,36 @@ module _ {lim : Limits} {ms : List model.Record} {t₀ t l₀ l p₀ p : List �
       → Accounted lim ms r.accounts
   unfolding differ
   posted r c =
-      let a = front tag_of t₀ t u.all-tags in
-      let b = front size_of l₀ l u.all-logical in
-      let d = front (len_of lim) p₀ p u.all-physical in
+      let a = front tag_of t₀ t u.all_tags in
+      let b = front size_of l₀ l u.all_logical in
+      let d = front (len_of lim) p₀ p u.all_physical in
       let k = length-map (reverse ms) tag_of in
       let j = length-map (reverse ms) size_of in
       let i = length-map (reverse ms) (len_of lim) in
       let m = length-map (reverse ms) (usage_of lim) in
       let v = length-reverse ms in
       let us : List Usage = map (usage_of lim) (reverse ms) in
-      let w : usages (take (n - 0) t) (take (n - 0) l) (take (n - 0) p) ≡ us = rw (a, b, d) (usages-map lim (reverse ms)) in
+      let w : usages (take (n - 0) t) (take (n - 0) l) (take (n - 0) p) ≡ us = rw (a, b, d) (usages_map lim (reverse ms)) in
       let s : differ (take (n - 0) t) (take (n - 0) l) (take (n - 0) p) ≡ false = rw (a, b, d) (simp (eq-eqb _ _ (k ∙ sym j), eq-eqb _ _ (k ∙ sym i))) in
-      let h : r ≡ record { refusal = 0; accounts = accounts_of (add_all us no_tags) } = c.answer ∙ simp (s, w) (few-usages us (omega arith)) in
-      record { table = ap (λ (q : Posted). table_of q.accounts) h ∙ table-accounts (add_all us no_tags); valid = c.valid }
+      let h : r ≡ record { refusal = 0; accounts = accounts_of (add_all us no_tags) } = c.answer ∙ simp (s, w) (few_usages us (omega arith)) in
+      record { table = ap (λ (q : Posted). table_of q.accounts) h ∙ table_accounts (add_all us no_tags); valid = c.valid }
 
 -- ---- rows: a map that keeps the key goes through `put_keyed` and `keyed`
 
-add-append : (us vs : List Usage) (t : Table) → add_all (us ++ vs) t ≡ add_all vs (add_all us t)
+add_append : (us vs : List Usage) (t : Table) → add_all (us ++ vs) t ≡ add_all vs (add_all us t)
 unfolding add_all
-add-append [] vs t = refl
-add-append (u ∷ us) vs t = add-append us vs _
+add_append [] vs t = refl
+add_append (u ∷ us) vs t = add_append us vs _
 
 -- the first record's usage is added last
-add-first : (lim : Limits) (m : model.Record) (ms : List model.Record)
+add_first : (lim : Limits) (m : model.Record) (ms : List model.Record)
     → add_all (map (usage_of lim) (reverse (m ∷ ms))) no_tags
     ≡ on_row (tag_of m) (add_usage (size_of m) (len_of lim m)) (add_all (map (usage_of lim) (reverse ms)) no_tags)
 unfolding add_all
-add-first lim m ms =
+add_first lim m ms =
     ap (λ (l : List model.Record). add_all (map (usage_of lim) l) no_tags) (reverse-cons m ms)
     ∙ ap (λ (l : List Usage). add_all l no_tags) (map-append (usage_of lim) (reverse ms) (m ∷ []))
-    ∙ add-append (map (usage_of lim) (reverse ms)) (usage_of lim m ∷ []) no_tags
+    ∙ add_append (map (usage_of lim) (reverse ms)) (usage_of lim m ∷ []) no_tags
 
 pub rows_are : (lim : Limits) (ms : List model.Record) → map cap_of (add_all (map (usage_of lim) (reverse ms)) no_tags).rows ≡ model.rows_for (map tag_of ms)
 unfolding model.rows_for on_row add_all
@@ -91,47 +91,47 @@ rows_are lim [] = refl
 rows_are lim (m ∷ ms) =
     let t : Table = add_all (map (usage_of lim) (reverse ms)) no_tags in
     let x : TagSpace = add_usage (size_of m) (len_of lim m) (accounting.row_of (tag_of m) t.rows) in
-    ap (λ (q : Table). map cap_of q.rows) (add-first lim m ms)
-    ∙ map-put cap_of accounting.tag_of model-world.tag_of (λ r. refl) x t.rows
-    ∙ ap (λ (q : TagRow). put_keyed model-world.tag_of q (map cap_of t.rows)) (map-keyed cap_of accounting.tag_of model-world.tag_of (λ r. refl) (blank (tag_of m)) (tag_of m) t.rows)
+    ap (λ (q : Table). map cap_of q.rows) (add_first lim m ms)
+    ∙ map_put cap_of accounting.tag_of model-world.tag_of (λ r. refl) x t.rows
+    ∙ ap (λ (q : TagRow). put_keyed model-world.tag_of q (map cap_of t.rows)) (map_keyed cap_of accounting.tag_of model-world.tag_of (λ r. refl) (blank (tag_of m)) (tag_of m) t.rows)
     ∙ ap (λ (l : List TagRow). model-world.with_tag (tag_of m) l) (rows_are lim ms)
 
 -- ---- totals
 
-sum-reverse : {A : Type 0} (f : A → ℕ) (xs : List A) → sum (map f (reverse xs)) ≡ sum (map f xs)
+sum_reverse : {A : Type 0} (f : A → ℕ) (xs : List A) → sum (map f (reverse xs)) ≡ sum (map f xs)
 unfolding sum
-sum-reverse f [] = refl
-sum-reverse {A} f (x ∷ xs) =
-    let i = sum-reverse f xs in
-    let a = sum-append (map f (reverse xs)) (f x ∷ []) in
+sum_reverse f [] = refl
+sum_reverse {A} f (x ∷ xs) =
+    let i = sum_reverse f xs in
+    let a = sum_append (map f (reverse xs)) (f x ∷ []) in
     ap (λ (l : List A). sum (map f l)) (reverse-cons x xs) ∙ ap sum (map-append f (reverse xs) (x ∷ [])) ∙ omega arith
 
-usage-sum : (f : Usage → ℕ) (tag : ℕ) (us : List Usage) → sum (map f (of_tag tag us)) ≡ sum (map (λ (u : Usage). if_tag u.tag tag (f u)) us)
+usage_sum : (f : Usage → ℕ) (tag : ℕ) (us : List Usage) → sum (map f (of_tag tag us)) ≡ sum (map (λ (u : Usage). if_tag u.tag tag (f u)) us)
 unfolding of_tag sum
-usage-sum f tag [] = refl
-usage-sum f tag (u ∷ us) =
-    let i = usage-sum f tag us in by-eq u.tag tag (λ e. simp (eq-eqb _ _ e) (omega arith)) (λ d. simp (ne_eqb _ _ d) (omega arith))
+usage_sum f tag [] = refl
+usage_sum f tag (u ∷ us) =
+    let i = usage_sum f tag us in by_eq u.tag tag (λ e. simp (eq-eqb _ _ e) (omega arith)) (λ d. simp (ne_eqb _ _ d) (omega arith))
 
 -- the usage of a region
 abbrev of_region : Limits → model-region.Region → Usage
 of_region lim r = usage r.tag r.published (footprint_len lim r)
 
 -- an accepted record counts what its region holds
-own-usage : (lim : Limits) (m : model.Record) (xs : List ℕ) → model.record_refusal lim m xs ≡ 0 → footprint_len lim (model.region_from m xs) ≤ top
+own_usage : (lim : Limits) (m : model.Record) (xs : List ℕ) → model.record_refusal lim m xs ≡ 0 → footprint_len lim (model.region_from m xs) ≤ top
     → usage_of lim m ≡ of_region lim (model.region_from m xs)
-own-usage lim m xs z h =
-    let c = (accepted-regular lim m.number m.entry m.header xs (2 * (count_of m + 2)) z).capacity in
+own_usage lim m xs z h =
+    let c = (accepted_regular lim m.number m.entry m.header xs (2 * (count_of m + 2)) z).capacity in
     let l = footprint-len lim (model.region_from m xs) in
     let e : len_of lim m ≡ footprint_len lim (model.region_from m xs) = omega arith in
     ap (usage (tag_of m) (size_of m)) e
 
-all-usages : (lim : Limits) (ms : List model.Record) (l : List ℕ) → All (λ (n : ℕ). n ≡ 0) (model.each_record (model.record_refusal lim) ms l)
+all_usages : (lim : Limits) (ms : List model.Record) (l : List ℕ) → All (λ (n : ℕ). n ≡ 0) (model.each_record (model.record_refusal lim) ms l)
     → sum (map (footprint_len lim) (model.each_record model.region_from ms l)) ≤ top
     → map (usage_of lim) ms ≡ map (of_region lim) (model.each_record model.region_from ms l)
 unfolding model.each_record sum
-all-usages lim [] l a h = refl
-all-usages lim (m ∷ ms) l a h =
-    rw (own-usage lim m (take (2 * listed_by m) l) a.0 (omega arith), all-usages lim ms (drop (2 * listed_by m) l) a.1 (omega arith))
+all_usages lim [] l a h = refl
+all_usages lim (m ∷ ms) l a h =
+    rw (own_usage lim m (take (2 * listed_by m) l) a.0 (omega arith), all_usages lim ms (drop (2 * listed_by m) l) a.1 (omega arith))
 
 module _ (lim : Limits) (ms : List model.Record) (l : List ℕ) (a : All (λ (n : ℕ). n ≡ 0) (model.each_record (model.record_refusal lim) ms l))
     (h : sum (map (footprint_len lim) (model.each_record model.region_from ms l)) ≤ top) (tag : ℕ) where
@@ -139,14 +139,14 @@ module _ (lim : Limits) (ms : List model.Record) (l : List ℕ) (a : All (λ (n 
   regions = model.each_record model.region_from ms l
 
   -- a total over the usages is one over the regions
-  total-is : (f : Usage → ℕ) → sum (map f (of_tag tag (map (usage_of lim) (reverse ms)))) ≡ sum (map (λ (r : model-region.Region). f (of_region lim r)) (model-world.of_tag tag regions))
-  total-is f =
+  total_is : (f : Usage → ℕ) → sum (map f (of_tag tag (map (usage_of lim) (reverse ms)))) ≡ sum (map (λ (r : model-region.Region). f (of_region lim r)) (model-world.of_tag tag regions))
+  total_is f =
       let g : Usage → ℕ = λ u. if_tag u.tag tag (f u) in
-      usage-sum f tag (map (usage_of lim) (reverse ms))
+      usage_sum f tag (map (usage_of lim) (reverse ms))
       ∙ ap sum (map-map g (usage_of lim) (reverse ms))
-      ∙ sum-reverse (λ (m : model.Record). g (usage_of lim m)) ms
+      ∙ sum_reverse (λ (m : model.Record). g (usage_of lim m)) ms
       ∙ ap sum (sym (map-map g (usage_of lim) ms))
-      ∙ ap (λ (us : List Usage). sum (map g us)) (all-usages lim ms l a h)
+      ∙ ap (λ (us : List Usage). sum (map g us)) (all_usages lim ms l a h)
       ∙ ap sum (map-map g (of_region lim) regions)
       ∙ sym (sum_tag (λ (r : model-region.Region). f (of_region lim r)) tag regions)
 
@@ -158,11 +158,11 @@ module _ (lim : Limits) (ms : List model.Record) (l : List ℕ) (a : All (λ (n 
   row_is logical physical p q u v =
       let us : List Usage = map (usage_of lim) (reverse ms) in
       let rows : List TagSpace = (add_all us no_tags).rows in
-      let x = total-is (λ (w : Usage). w.logical) in
-      let y = total-is (λ (w : Usage). w.physical) in
-      let r = usage-row tag us in
+      let x = total_is (λ (w : Usage). w.logical) in
+      let y = total_is (λ (w : Usage). w.physical) in
+      let r = usage_row tag us in
       let c : model-world.row_of tag (model.rows_for (map tag_of ms)) ≡ cap_of (accounting.row_of tag rows) =
-      ap (model-world.row_of tag) (sym (rows_are lim ms)) ∙ sym (map-keyed cap_of accounting.tag_of model-world.tag_of (λ t. refl) (blank tag) tag rows) in
+      ap (model-world.row_of tag) (sym (rows_are lim ms)) ∙ sym (map_keyed cap_of accounting.tag_of model-world.tag_of (λ t. refl) (blank tag) tag rows) in
       let a : stop (0 + sum (map (λ (w : Usage). w.logical) (of_tag tag us))) ≡ logical = omega arith in
       let b : stop (0 + sum (map (λ (w : Usage). w.physical) (of_tag tag us))) ≡ physical = omega arith in
       rw (c, r, a, b)

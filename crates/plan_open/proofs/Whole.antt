@@ -24,15 +24,15 @@ use Rattle.plan_record.specs.declared.Plan.{Plan}
 use Rattle.plan_record.specs.declared.Record.{Record}
 use Rattle.plan_record.specs.declared.Region.{Region}
 use Rattle.plan_settled.specs.Settled.{seq_of}
-use Rattle.footprint.proofs.Answer.{none-failed}
+use Rattle.footprint.proofs.Answer.{none_failed}
 use Rattle.footprint.proofs.Passed.{Inside}
-use Rattle.footprint.proofs.Regular.{accepted-regular}
-use Rattle.model.proofs.Figures.{held-most, logical-most, physical-most}
-use Rattle.model.proofs.Opening.{count_of, each-length, each_at, Fine, accepted-fine, checks, opened-sound}
-use Rattle.numbers.proofs.Lists.{all-at, all_of, all-imp, mapped_at, at-distinct}
+use Rattle.footprint.proofs.Regular.{accepted_regular}
+use Rattle.model.proofs.Figures.{held_most, logical_most, physical_most}
+use Rattle.model.proofs.Opening.{count_of, each_length, each_at, Fine, accepted_fine, checks, opened_sound}
+use Rattle.numbers.proofs.Lists.{all_at, all_of, all_imp, mapped_at, at_distinct}
 use Rattle.numbers.proofs.Pairs.{length_pairs}
-use Rattle.numbers.proofs.Refusals.{first-none, first-parts, each-sum}
-use Rattle.plan_checks.proofs.Reading.{records-length}
+use Rattle.numbers.proofs.Refusals.{first_none, first_parts, each_sum}
+use Rattle.plan_checks.proofs.Reading.{records_length}
 use Rattle.plan_open.proofs.Usages.{rows_are, row_is}
 use Rattle.accounting.specs.Table as accounting
 use Rattle.model.specs.Open as model
@@ -48,22 +48,22 @@ module _ (lim : Limits) (r : model.Record) (xs : List ℕ) (z : model.record_ref
   places = 2 * (count_of r + 2)
 
   -- 12, "The sum of extents passes 2^64 - 1", did not apply
-  sum-whole : total (committed r.entry xs) ≤ top
-  sum-whole =
-      let a = (none-failed lim r.number r.entry r.header xs places z).0 in
-      let b = (first-parts (entry_tests lim r.entry r.header xs places ++ header_tests r.number r.entry r.header) (extent_tests lim r.entry (committed r.entry xs)) a).1 in
-      let c = each-sum (outside lim r.entry) 0 (committed r.entry xs) (omega arith) (first-none _ _ b).0 in
+  sum_whole : total (committed r.entry xs) ≤ top
+  sum_whole =
+      let a = (none_failed lim r.number r.entry r.header xs places z).0 in
+      let b = (first_parts (entry_tests lim r.entry r.header xs places ++ header_tests r.number r.entry r.header) (extent_tests lim r.entry (committed r.entry xs)) a).1 in
+      let c = each_sum (outside lim r.entry) 0 (committed r.entry xs) (omega arith) (first_none _ _ b).0 in
       omega arith
 
-  pub fit-from : count_of r ≤ 60 → Fit r xs
-  fit-from f =
-      let g = accepted-regular lim r.number r.entry r.header xs places z in
+  pub fit_from : count_of r ≤ 60 → Fit r xs
+  fit_from f =
+      let g = accepted_regular lim r.number r.entry r.header xs places z in
       let l = length_pairs xs in
       record {
         few = f;
         listed = ⊎_elim (λ e. omega (arith, g.lists.listed, e, l)) (λ e. omega (arith, g.lists.listed, e.1, l)) g.agreed.count;
-        ends = all-imp (Inside lim r.entry) (λ (x : Range). x.offset + x.len ≤ top) (λ x i. i.ends) (committed r.entry xs) g.inside;
-        whole = sum-whole;
+        ends = all_imp (Inside lim r.entry) (λ (x : Range). x.offset + x.len ≤ top) (λ x i. i.ends) (committed r.entry xs) g.inside;
+        whole = sum_whole;
         size = omega (arith, g.entry.size, g.capacity);
       }
 
@@ -75,32 +75,32 @@ module _ {lim : Limits} {rs : List Record} {n : ℕ} {l xs₀ ss₀ fs₀ : List
   ms = records_of rs n
 
   fine : Fine o
-  fine = accepted-fine o a.none
+  fine = accepted_fine o a.none
 
   sound : model-sound.Sound (model.opened o)
-  sound = opened-sound o a.none
+  sound = opened_sound o a.none
 
-  pub build-few : n ≤ 64
-  build-few = omega (arith, fine.lists.few, records-length rs n)
+  pub build_few : n ≤ 64
+  build_few = omega (arith, fine.lists.few, records_length rs n)
 
-  pub build-log : lim.log2_block ≤ 16
-  build-log = fine.logs.high
+  pub build_log : lim.log2_block ≤ 16
+  build_log = fine.logs.high
 
-  pub build-fits : Fitting ms l (length xs₀) (length ss₀) (length fs₀)
-  build-fits =
+  pub build_fits : Fitting ms l (length xs₀) (length ss₀) (length fs₀)
+  build_fits =
       let p = fine.lists.places in
       let q = length_pairs xs₀ in
       let k = length_pairs l in
       record {
         fit =
             λ i h.
-            let e = each-length (model.record_refusal lim) ms l in
-            let z = sym (each_at (model.record_refusal lim) ms l i blank_record 0 h) ∙ all-at (λ (m : ℕ). m ≡ 0) (checks o) i 0 fine.checked (omega arith) in
-            fit-from lim (get_or ms i blank_record) (own_of ms l i) z (all-at (λ (r : model.Record). count_of r ≤ 60) ms i blank_record fine.lists.counts h);
+            let e = each_length (model.record_refusal lim) ms l in
+            let z = sym (each_at (model.record_refusal lim) ms l i blank_record 0 h) ∙ all_at (λ (m : ℕ). m ≡ 0) (checks o) i 0 fine.checked (omega arith) in
+            fit_from lim (get_or ms i blank_record) (own_of ms l i) z (all_at (λ (r : model.Record). count_of r ≤ 60) ms i blank_record fine.lists.counts h);
         all_listed = omega (arith, fine.lists.listed);
-        for-extents = omega arith;
-        for-starts = omega arith;
-        for-files = omega arith;
+        for_extents = omega arith;
+        for_starts = omega arith;
+        for_files = omega arith;
       }
 
   module _ {xs ss fs : List ℕ} {gs : List Region} (f : Filled ms l xs₀ xs ss₀ ss fs₀ fs gs) (last : ℕ) (t : last ≡ model.highest (map seq_of ms)) {acc : Accounting} (c : Accounted lim ms acc) where
@@ -108,12 +108,12 @@ module _ {lim : Limits} {rs : List Record} {n : ℕ} {l xs₀ ss₀ fs₀ : List
     plan = record { limits = lim; last = last; count = n; regions = gs; accounts = acc }
 
     front : length (take n gs) ≡ n
-    front = let b = build-few in length-take-le n gs (omega (arith, f.rows.full))
+    front = let b = build_few in length-take-le n gs (omega (arith, f.rows.full))
 
     -- region i
     at : (i : ℕ) → i < n → Rowed (get_or ms i blank_record) (own_of ms l i) i (row_in i (pairs xs)) (row_in i ss) (row_in i fs) (get_or (take n gs) i past_region)
     at i h =
-        rw (get_or-take n gs i past_region h) (f.each i (omega (arith, h, records-length rs n)))
+        rw (get_or-take n gs i past_region h) (f.each i (omega (arith, h, records_length rs n)))
 
     means : (i : ℕ) → i < n → region_of xs (get_or (take n gs) i past_region) ≡ model.region_from (get_or ms i blank_record) (own_of ms l i)
     means i h =
@@ -134,8 +134,8 @@ module _ {lim : Limits} {rs : List Record} {n : ℕ} {l xs₀ ss₀ fs₀ : List
     regions : map (region_of xs) (take n gs) ≡ model.each_record model.region_from ms l
     regions =
         let b = length-map (take n gs) (region_of xs) in
-        let d = each-length model.region_from ms l in
-        let e = records-length rs n in
+        let d = each_length model.region_from ms l in
+        let e = records_length rs n in
         let g = front in
         ext_get_or model-region.no_region (map (region_of xs) (take n gs)) (model.each_record model.region_from ms l) (omega arith)
         (λ i h.
@@ -153,7 +153,7 @@ module _ {lim : Limits} {rs : List Record} {n : ℕ} {l xs₀ ss₀ fs₀ : List
     distinct =
         let b = length-map gs row_of in
         let e = f.rows.full in
-        at-distinct (map row_of gs) 0
+        at_distinct (map row_of gs) 0
         (λ i j k h q.
         let u = mapped_at row_of gs i past_region 0 (omega arith) ∙ f.rows.row i (omega arith) in
         let v = mapped_at row_of gs j past_region 0 (omega arith) ∙ f.rows.row j (omega arith) in
@@ -161,24 +161,24 @@ module _ {lim : Limits} {rs : List Record} {n : ℕ} {l xs₀ ss₀ fs₀ : List
 
     accounted : (tag : ℕ) → accounting.row_of tag (rows_of plan) ≡ account_of (model.opened o) tag
     accounted tag =
-        let m = held-most (model.opened o) sound in
-        let u = logical-most (model.opened o) sound tag in
-        let v = physical-most (model.opened o) sound tag in
+        let m = held_most (model.opened o) sound in
+        let u = logical_most (model.opened o) sound tag in
+        let v = physical_most (model.opened o) sound tag in
         ap (λ (q : accounting.Table). accounting.row_of tag q.rows) c.table
         ∙ row_is lim ms l fine.checked m tag _ _ refl refl (omega arith) (omega arith)
 
     pub built : Built lim rs n l xs₀ xs ss₀ ss fs₀ fs plan
     built =
-        let k = build-fits in
+        let k = build_fits in
         let q = length_pairs xs in
         record {
           valid =
               record {
                 full = f.rows.full;
-                few = build-few;
-                extents = omega (arith, k.for-extents, f.extents.size);
-                starts = omega (arith, k.for-starts, f.starts.size);
-                files = omega (arith, k.for-files, f.files.size);
+                few = build_few;
+                extents = omega (arith, k.for_extents, f.extents.size);
+                starts = omega (arith, k.for_starts, f.starts.size);
+                files = omega (arith, k.for_files, f.files.size);
                 rows = distinct;
                 inside = all_of (λ (g : Region). g.row < 64) gs past_region (λ i h. let e = f.rows.row i (omega (arith, h, f.rows.full)) in omega (arith, e, h, f.rows.full));
                 mapped = all_of (Mapped xs ss fs) (take n gs) past_region (λ i h. maps i (omega (arith, h, front)));

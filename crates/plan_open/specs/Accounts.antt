@@ -27,16 +27,16 @@ usage_of lim r = usage (tag_of r) (size_of r) (len_of lim r)
 
 -- Their usages in three lists, the last record's first.
 pub record UsageIn (lim : Limits) (rs : List Record) (tags₀ tags logical₀ logical physical₀ physical : List ℕ) : Type 0 where
-  pub all-tags : tags ≡ written (map tag_of (reverse rs)) tags₀
-  pub all-logical : logical ≡ written (map size_of (reverse rs)) logical₀
-  pub all-physical : physical ≡ written (map (len_of lim) (reverse rs)) physical₀
+  pub all_tags : tags ≡ written (map tag_of (reverse rs)) tags₀
+  pub all_logical : logical ≡ written (map size_of (reverse rs)) logical₀
+  pub all_physical : physical ≡ written (map (len_of lim) (reverse rs)) physical₀
 
 -- The lists have places for n.
 pub record Room (n tags logical physical : ℕ) : Type 0 where
   pub few : n ≤ 64
-  pub for-tags : n ≤ tags
-  pub for-logical : n ≤ logical
-  pub for-physical : n ≤ physical
+  pub for_tags : n ≤ tags
+  pub for_logical : n ≤ logical
+  pub for_physical : n ≤ physical
 
 -- Their accounts.
 pub record Accounted (lim : Limits) (rs : List Record) (a : Accounting) : Type 0 where

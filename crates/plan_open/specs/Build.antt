@@ -37,9 +37,9 @@ own_of rs listed i = take (2 * listed_by (get_or rs i blank_record)) (drop (2 * 
 pub record Fitting (rs : List model.Record) (listed : List ℕ) (extents starts files : ℕ) : Type 0 where
   pub fit : (i : ℕ) → i < length rs → Fit (get_or rs i blank_record) (own_of rs listed i)
   pub all_listed : 2 * sum (map listed_by rs) ≤ length listed
-  pub for-extents : 7680 ≤ extents
-  pub for-starts : 3840 ≤ starts
-  pub for-files : 3840 ≤ files
+  pub for_extents : 7680 ≤ extents
+  pub for_starts : 3840 ≤ starts
+  pub for_files : 3840 ≤ files
 
 -- Record i's region stands in the row i.
 pub record Filled (rs : List model.Record) (listed xs₀ xs ss₀ ss fs₀ fs : List ℕ) (gs : List Region) : Type 0 where

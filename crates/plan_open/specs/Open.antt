@@ -30,6 +30,6 @@ pub record Opens (o : Opening) (xs₀ xs ss₀ ss fs₀ fs : List ℕ) (r : Outc
   pub valid : r.reply ≡ Done → Valid r.plan xs ss fs
   pub world : r.reply ≡ Done → world_of r.plan xs ≡ opened o
   pub kept : (n : ℕ) → r.reply ≡ Refused n → (r.plan ≡ blank_plan) × (xs ≡ xs₀) × (ss ≡ ss₀) × (fs ≡ fs₀)
-  pub behind-extents : drop 7680 xs ≡ drop 7680 xs₀
-  pub behind-starts : drop 3840 ss ≡ drop 3840 ss₀
-  pub behind-files : drop 3840 fs ≡ drop 3840 fs₀
+  pub behind_extents : drop 7680 xs ≡ drop 7680 xs₀
+  pub behind_starts : drop 3840 ss ≡ drop 3840 ss₀
+  pub behind_files : drop 3840 fs ≡ drop 3840 fs₀

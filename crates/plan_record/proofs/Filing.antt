@@ -23,44 +23,44 @@ use Rattle.plan_record.specs.declared.Record.{Record}
 use Rattle.plan_record.specs.declared.Region.{Region}
 use Rattle.plan_record.specs.declared.Reply.{Reply}
 use Rattle.plan_record.specs.declared.Reply.TheVariants.{Done, Refused}
-use Rattle.numbers.proofs.Answers.{answer-value, one-fails}
-use Rattle.numbers.proofs.Lists.{past-none}
-use Rattle.numbers.proofs.Pairs.{flat_append, length_pairs, length-flat, flat-pairs, pairs-flat, pairs-take, pairs-drop, same-pairs}
-use Rattle.plan_record.proofs.Fitting.{extents-are}
-use Rattle.plan_record.proofs.Known.{region_at, world-at, mapped-is, row_is}
-use Rattle.plan_record.proofs.Laying.{extents-length}
+use Rattle.numbers.proofs.Answers.{answer_value, one_fails}
+use Rattle.numbers.proofs.Lists.{past_none}
+use Rattle.numbers.proofs.Pairs.{flat_append, length_pairs, length_flat, flat_pairs, pairs_flat, pairs_take, pairs_drop, same_pairs}
+use Rattle.plan_record.proofs.Fitting.{extents_are}
+use Rattle.plan_record.proofs.Known.{region_at, world_at, mapped_is, row_is}
+use Rattle.plan_record.proofs.Laying.{extents_length}
 use Rattle.model.specs.Open as model
 use Rattle.model.specs.Region as region
 
 -- open makes the same region of it
-pub handed-again : (r : region.Region) → model.region_from (handed_from r) (flat r.extents) ≡ r
-handed-again r = rw (pairs-flat r.extents, take-length r.extents)
+pub handed_again : (r : region.Region) → model.region_from (handed_from r) (flat r.extents) ≡ r
+handed_again r = rw (pairs_flat r.extents, take-length r.extents)
 
 -- ---- a list by its pairs and what stands behind them
 
-even-front : (k : ℕ) (l : List ℕ) → 2 * k ≤ length l → take (2 * k) l ≡ flat (take k (pairs l))
-even-front k l h =
+even_front : (k : ℕ) (l : List ℕ) → 2 * k ≤ length l → take (2 * k) l ≡ flat (take k (pairs l))
+even_front k l h =
     let n : length (take (2 * k) l) ≡ 2 * k = length-take-le (2 * k) l h in
-    sym (flat-pairs (take (2 * k) l) (omega arith)) ∙ ap flat (pairs-take k l)
+    sym (flat_pairs (take (2 * k) l) (omega arith)) ∙ ap flat (pairs_take k l)
 
-by-pairs : (l : List ℕ) → l ≡ flat (pairs l) ++ drop (2 * length (pairs l)) l
-by-pairs l =
+by_pairs : (l : List ℕ) → l ≡ flat (pairs l) ++ drop (2 * length (pairs l)) l
+by_pairs l =
     let n = length_pairs l in
     sym (take-append-drop (2 * length (pairs l)) l)
-    ∙ ap (λ (t : List ℕ). t ++ drop (2 * length (pairs l)) l) (even-front (length (pairs l)) l (omega arith) ∙ ap flat (take-length (pairs l)))
+    ∙ ap (λ (t : List ℕ). t ++ drop (2 * length (pairs l)) l) (even_front (length (pairs l)) l (omega arith) ∙ ap flat (take-length (pairs l)))
 
 -- ranges laid from the front on are written over the front
-pub laid-written : (s t : List ℕ) (rs : List Range) → Lays s t 0 rs → length t ≡ length s → length rs ≤ length (pairs s) → t ≡ flat rs ++ drop (length (flat rs)) s
-laid-written s t rs l e h =
-    let n = length-flat rs in
+pub laid_written : (s t : List ℕ) (rs : List Range) → Lays s t 0 rs → length t ≡ length s → length rs ≤ length (pairs s) → t ≡ flat rs ++ drop (length (flat rs)) s
+laid_written s t rs l e h =
+    let n = length_flat rs in
     let k = length rs in
-    let m : length (pairs t) ≡ length (pairs s) = same-pairs t s e in
+    let m : length (pairs t) ≡ length (pairs s) = same_pairs t s e in
     let ps : pairs t ≡ rs ++ drop k (pairs s) = l.stored ∙ sets-eq rs (pairs s) 0 (omega arith) ∙ ap (λ (j : ℕ). rs ++ drop j (pairs s)) (zero-add k) in
     let z : 2 * k + 2 * length (pairs (drop (2 * k) s)) ≡ 2 * length (pairs s) =
-    let q = ap length (pairs-drop k s) in let r = length-drop k (pairs s) in omega arith in
+    let q = ap length (pairs_drop k s) in let r = length-drop k (pairs s) in omega arith in
     let d : drop (2 * k) s ≡ flat (drop k (pairs s)) ++ drop (2 * length (pairs s)) s =
-    by-pairs (drop (2 * k) s) ∙ rw (drop-drop (2 * length (pairs (drop (2 * k) s))) (2 * k) s, z, pairs-drop k s) in
-    by-pairs t
+    by_pairs (drop (2 * k) s) ∙ rw (drop-drop (2 * length (pairs (drop (2 * k) s))) (2 * k) s, z, pairs_drop k s) in
+    by_pairs t
     ∙ ap (λ (u : List ℕ). flat (pairs t) ++ u) (ap (λ (j : ℕ). drop (2 * j) t) m ∙ l.behind)
     ∙ ap (λ (u : List Range). flat u ++ drop (2 * length (pairs s)) s) ps
     ∙ ap (λ (u : List ℕ). u ++ drop (2 * length (pairs s)) s) (flat_append rs (drop k (pairs s)))
@@ -72,8 +72,8 @@ laid-written s t rs l e h =
 done_refused : (n : ℕ) → Done ≡ Refused n → ⊥
 done_refused n e = let z : ◌≡◌ {A = ℕ} 0 1 = cc in omega arith
 
-filed-is : (xs : List ℕ) (g : Region) (n : ℕ) → n ≡ length (region_of xs g).extents → g.map.capacity ≡ total (region_of xs g).extents → record_of (record_for g n) ≡ handed_from (region_of xs g)
-filed-is xs g n a b = rw (a, b)
+filed_is : (xs : List ℕ) (g : Region) (n : ℕ) → n ≡ length (region_of xs g).extents → g.map.capacity ≡ total (region_of xs g).extents → record_of (record_for g n) ≡ handed_from (region_of xs g)
+filed_is xs g n a b = rw (a, b)
 
 module _ (p : Plan) (i : ℕ) (xs out₀ : List ℕ) where
   abbrev Gives : List ℕ → Reply → Record → Type 0
@@ -82,19 +82,19 @@ module _ (p : Plan) (i : ℕ) (xs out₀ : List ℕ) where
   abbrev here : region.Region
   here = get_or (world_of p xs).regions i region.no_region
 
-  refused-hands : ((ss fs : List ℕ) → Valid p xs ss fs → (ltb (length (pairs xs)) places || ltb (length (pairs out₀)) (length here.extents)) ≡ true) → Gives out₀ (Refused 1) blank_record
+  refused_hands : ((ss fs : List ℕ) → Valid p xs ss fs → (ltb (length (pairs xs)) places || ltb (length (pairs out₀)) (length here.extents)) ≡ true) → Gives out₀ (Refused 1) blank_record
   unfolding hand_refusal refuse
-  refused-hands f =
+  refused_hands f =
       record {
-        answer = λ ss fs v. sym (one-fails 1 _ none (omega arith) (f ss fs v));
+        answer = λ ss fs v. sym (one_fails 1 _ none (omega arith) (f ss fs v));
         record_is = λ ss fs v e. absurd (done_refused 1 (sym e));
         slots = λ ss fs v. simp (f ss fs v);
         refused = λ n e. (refl, refl);
         short = λ h. refl;
       }
 
-  pub hands-short : length (pairs xs) < places → Gives out₀ (Refused 1) blank_record
-  hands-short h = refused-hands (λ ss fs v. absurd (omega (arith, v.extents)))
+  pub hands_short : length (pairs xs) < places → Gives out₀ (Refused 1) blank_record
+  hands_short h = refused_hands (λ ss fs v. absurd (omega (arith, v.extents)))
 
   module _ (long : places ≤ length (pairs xs)) where
     passes : (n : ℕ) → length here.extents ≡ n → n ≤ length (pairs out₀) → hand_refusal (world_of p xs) i xs out₀ ≡ 0
@@ -106,7 +106,7 @@ module _ (p : Plan) (i : ℕ) (xs out₀ : List ℕ) where
         → Gives out Done f
     given out f g =
         record {
-          answer = λ ss fs v. sym (answer-value _ none (passes _ refl (g ss fs v).0));
+          answer = λ ss fs v. sym (answer_value _ none (passes _ refl (g ss fs v).0));
           record_is = λ ss fs v e. (g ss fs v).1;
           slots = λ ss fs v. let z = passes _ refl (g ss fs v).0 in rw z (g ss fs v).2;
           refused = λ n e. absurd (done_refused n e);
@@ -116,42 +116,42 @@ module _ (p : Plan) (i : ℕ) (xs out₀ : List ℕ) where
     module _ (m : ℕ) (a : m ≡ length (regions_of p)) where
       past_is : m ≤ i → here ≡ region.no_region
       unfolding world_of
-      past_is h = past-none (world_of p xs).regions i region.no_region (rw (length-map (regions_of p) (region_of xs)) (omega arith))
+      past_is h = past_none (world_of p xs).regions i region.no_region (rw (length-map (regions_of p) (region_of xs)) (omega arith))
 
-      pub hands-past : m ≤ i → Gives out₀ Done blank_record
+      pub hands_past : m ≤ i → Gives out₀ Done blank_record
       unfolding flat sum
-      hands-past h = let e = past_is h in given out₀ blank_record (λ ss fs v. rw e (omega arith, refl, refl))
+      hands_past h = let e = past_is h in given out₀ blank_record (λ ss fs v. rw e (omega arith, refl, refl))
 
       module _ (l : i < m) where
         inside : i < length (regions_of p)
         inside = omega arith
 
-        here-is : here ≡ region_of xs (region_at p i)
+        here_is : here ≡ region_of xs (region_at p i)
         unfolding world_of
-        here-is = world-at p xs i inside
+        here_is = world_at p xs i inside
 
-        extents-here : (ss fs : List ℕ) → Valid p xs ss fs → region_extents xs (region_at p i) ≡ here.extents
-        extents-here ss fs v =
-            extents-are xs (region_at p i) (mapped-is p xs ss fs v i inside).count (row_is p xs ss fs v i inside) ∙ sym (ap (λ (r : region.Region). r.extents) here-is)
+        extents_here : (ss fs : List ℕ) → Valid p xs ss fs → region_extents xs (region_at p i) ≡ here.extents
+        extents_here ss fs v =
+            extents_are xs (region_at p i) (mapped_is p xs ss fs v i inside).count (row_is p xs ss fs v i inside) ∙ sym (ap (λ (r : region.Region). r.extents) here_is)
 
-        count-here : (n : ℕ) → n ≡ min (region_at p i).extent_count 60 → (ss fs : List ℕ) → Valid p xs ss fs → length here.extents ≡ n
-        count-here n e ss fs v = ap length (sym (extents-here ss fs v)) ∙ extents-length xs (region_at p i) long ∙ sym e
+        count_here : (n : ℕ) → n ≡ min (region_at p i).extent_count 60 → (ss fs : List ℕ) → Valid p xs ss fs → length here.extents ≡ n
+        count_here n e ss fs v = ap length (sym (extents_here ss fs v)) ∙ extents_length xs (region_at p i) long ∙ sym e
 
-        pub hands-few : (n : ℕ) → n ≡ min (region_at p i).extent_count 60 → length (pairs out₀) < n → Gives out₀ (Refused 1) blank_record
-        hands-few n e h =
-            refused-hands
-            (λ ss fs v. let k = count-here n e ss fs v in let q : length (pairs out₀) < length here.extents = omega arith in simp (lt-ltb _ _ q, or-true))
+        pub hands_few : (n : ℕ) → n ≡ min (region_at p i).extent_count 60 → length (pairs out₀) < n → Gives out₀ (Refused 1) blank_record
+        hands_few n e h =
+            refused_hands
+            (λ ss fs v. let k = count_here n e ss fs v in let q : length (pairs out₀) < length here.extents = omega arith in simp (lt-ltb _ _ q, or-true))
 
-        pub hands-done : (n : ℕ) → n ≡ min (region_at p i).extent_count 60 → n ≤ length (pairs out₀) → (out : List ℕ) → length out ≡ length out₀
+        pub hands_done : (n : ℕ) → n ≡ min (region_at p i).extent_count 60 → n ≤ length (pairs out₀) → (out : List ℕ) → length out ≡ length out₀
             → Lays out₀ out 0 (region_extents xs (region_at p i)) → Gives out Done (record_for (region_at p i) n)
-        hands-done n e h out w b =
+        hands_done n e h out w b =
             given out (record_for (region_at p i) n)
             (λ ss fs v.
-            let k = count-here n e ss fs v in
-            let x = extents-here ss fs v in
-            let t = mapped-is p xs ss fs v i inside in
+            let k = count_here n e ss fs v in
+            let x = extents_here ss fs v in
+            let t = mapped_is p xs ss fs v i inside in
             let q = ap length x in (
               omega arith,
-              filed-is xs (region_at p i) n (sym k ∙ ap (λ (r : region.Region). length r.extents) here-is) t.lays.capacity ∙ ap handed_from (sym here-is),
-              laid-written out₀ out here.extents (subst (Lays out₀ out 0) x b) w (omega arith),
+              filed_is xs (region_at p i) n (sym k ∙ ap (λ (r : region.Region). length r.extents) here_is) t.lays.capacity ∙ ap handed_from (sym here_is),
+              laid_written out₀ out here.extents (subst (Lays out₀ out 0) x b) w (omega arith),
             ))

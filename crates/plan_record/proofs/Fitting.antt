@@ -21,13 +21,13 @@ use Rattle.plan_record.specs.Plan.{region_of, regions_of, world_of, Mapped, Vali
 use Rattle.plan_record.specs.Promises.{Fits}
 use Rattle.plan_record.specs.declared.Plan.{Plan}
 use Rattle.plan_record.specs.declared.Region.{Region}
-use Rattle.freemap.proofs.Words.{gaps-read, read-fit}
-use Rattle.model.proofs.Spans.{least-is-fit}
-use Rattle.numbers.proofs.Answers.{not-both, one_passes}
-use Rattle.numbers.proofs.Pairs.{even-list, length_pairs, pairs-take}
-use Rattle.numbers.proofs.Powers.{power-of}
-use Rattle.plan_record.proofs.Holding.{block-is}
-use Rattle.plan_record.proofs.Regions.{all-counted}
+use Rattle.freemap.proofs.Words.{gaps_read, read_fit}
+use Rattle.model.proofs.Spans.{least_is_fit}
+use Rattle.numbers.proofs.Answers.{not_both, one_passes}
+use Rattle.numbers.proofs.Pairs.{even_list, length_pairs, pairs_take}
+use Rattle.numbers.proofs.Powers.{power_of}
+use Rattle.plan_record.proofs.Holding.{block_is}
+use Rattle.plan_record.proofs.Regions.{all_counted}
 use Rattle.freemap.specs.Fit as freemap
 use Rattle.freemap.specs.Gaps as gaps
 use Rattle.freemap.specs.declared.Complement.TheVariants as complement
@@ -35,46 +35,46 @@ use Rattle.freemap.specs.declared.Complement.TheVariants as complement
 -- ---- what is laid is what is held
 
 module _ (xs : List ℕ) (g : Region) where
-  pub extents-are : g.extent_count ≤ 60 → g.row < 64 → region_extents xs g ≡ (region_of xs g).extents
+  pub extents_are : g.extent_count ≤ 60 → g.row < 64 → region_extents xs g ≡ (region_of xs g).extents
   unfolding region_extents
-  extents-are c h =
+  extents_are c h =
       let a : min g.extent_count 60 ≡ g.extent_count = omega arith in
       let b : min g.row 63 ≡ g.row = omega arith in
       rw (a, b)
 
 module _ (p : Plan) (xs ss fs : List ℕ) (v : Valid p xs ss fs) where
-  each-held : (gs : List Region) → All (λ (g : Region). g.row < 64) gs → All (Mapped xs ss fs) gs → laid_each (block_in p) xs gs ≡ footprints p.limits (map (region_of xs) gs)
+  each_held : (gs : List Region) → All (λ (g : Region). g.row < 64) gs → All (Mapped xs ss fs) gs → laid_each (block_in p) xs gs ≡ footprints p.limits (map (region_of xs) gs)
   unfolding laid_each laid footprints world_of
-  each-held [] a m = refl
-  each-held (g ∷ gs) a m =
-      let b = block-is p xs ss fs v in
-      rw (each-held gs a.1 m.1, extents-are xs g m.0.count a.0, b)
+  each_held [] a m = refl
+  each_held (g ∷ gs) a m =
+      let b = block_is p xs ss fs v in
+      rw (each_held gs a.1 m.1, extents_are xs g m.0.count a.0, b)
 
-  pub laid-held : laid_all p xs ≡ held_ranges (world_of p xs)
+  pub laid_held : laid_all p xs ≡ held_ranges (world_of p xs)
   unfolding world_of
-  laid-held = each-held (regions_of p) (all-counted (λ (g : Region). g.row < 64) p v.inside) v.mapped
+  laid_held = each_held (regions_of p) (all_counted (λ (g : Region). g.row < 64) p v.inside) v.mapped
 
-  pub power-is : is_power_of_two (block_in p) ≡ true
-  power-is = power-of 64 (min p.limits.log2_block 16) (omega arith)
+  pub power_is : is_power_of_two (block_in p) ≡ true
+  power_is = power_of 64 (min p.limits.log2_block 16) (omega arith)
 
 -- ---- the ranges that are lent to `complement`
 
 module _ (p : Plan) (xs s t : List ℕ) (k : ℕ) (l : Lays s t 0 (laid_all p xs)) (e : k ≡ length (laid_all p xs)) (few : k ≤ 3968) (long : length s ≡ 7936) where
-  pub lent-pairs : pairs (take (2 * k - 0) t) ≡ laid_all p xs
-  lent-pairs =
+  pub lent_pairs : pairs (take (2 * k - 0) t) ≡ laid_all p xs
+  lent_pairs =
       let d : 2 * k - 0 ≡ 2 * k = omega arith in
       let n = length_pairs s in
-      rw (d, pairs-take k t, l.stored, sets-eq (laid_all p xs) (pairs s) 0 (omega arith))
+      rw (d, pairs_take k t, l.stored, sets-eq (laid_all p xs) (pairs s) 0 (omega arith))
       (take_at (laid_all p xs) (drop (0 + length (laid_all p xs)) (pairs s)) k (sym e))
 
   module _ (t-long : length t ≡ length s) (gs₀ : List ℕ) (wide : length gs₀ ≡ 7938) where
-    pub lent-fine : gaps.complement_fails (take (2 * k - 0) t) gs₀ ≡ false
+    pub lent_fine : gaps.complement_fails (take (2 * k - 0) t) gs₀ ≡ false
     unfolding gaps.complement_fails
-    lent-fine =
+    lent_fine =
         let n : length (take (2 * k - 0) t) ≡ 2 * k = simp length-take (omega arith) in
         let a = length_pairs gs₀ in
-        let b = ap length lent-pairs in
-        simp (even-list (take (2 * k - 0) t) (omega arith), le-ltb (length (pairs gs₀)) (length (pairs (take (2 * k - 0) t)) + 1) (omega arith))
+        let b = ap length lent_pairs in
+        simp (even_list (take (2 * k - 0) t) (omega arith), le-ltb (length (pairs gs₀)) (length (pairs (take (2 * k - 0) t)) + 1) (omega arith))
 
     module _ (n : ℕ) (rs gs : List ℕ) where
       abbrev te : ℕ
@@ -84,19 +84,19 @@ module _ (p : Plan) (xs s t : List ℕ) (k : ℕ) (l : Lays s t 0 (laid_all p xs
       len = p.limits.file_len
 
       -- `complement` is not refused
-      pub lent-taken : (r : Complement) (m : ℕ) (f : Fit) → gaps.Complemented te len (take (2 * k - 0) t) rs gs₀ gs r → r ≡ complement.Refused m → Fits p n xs f
-      lent-taken r m f d e' =
+      pub lent_taken : (r : Complement) (m : ℕ) (f : Fit) → gaps.Complemented te len (take (2 * k - 0) t) rs gs₀ gs r → r ≡ complement.Refused m → Fits p n xs f
+      lent_taken r m f d e' =
           let c = subst (λ (r : Complement). gaps.Complemented te len (take (2 * k - 0) t) rs gs₀ gs r) e' d in
-          absurd (not-both _ m (sym (one_passes 1 _ _ lent-fine) ∙ sym c.answer))
+          absurd (not_both _ m (sym (one_passes 1 _ _ lent_fine) ∙ sym c.answer))
 
-      pub fits-lowest : (r : Complement) (m : FreeMap) (f : Fit) (b : ℕ) → gaps.Complemented te len (take (2 * k - 0) t) rs gs₀ gs r → r ≡ complement.Map m → b ≡ block_in p
+      pub fits_lowest : (r : Complement) (m : FreeMap) (f : Fit) (b : ℕ) → gaps.Complemented te len (take (2 * k - 0) t) rs gs₀ gs r → r ≡ complement.Map m → b ≡ block_in p
           → freemap.place_of f ≡ freemap.fit_of m gs n b 0 → Fits p n xs f
       unfolding world_of
-      fits-lowest r m f b d e' q w =
+      fits_lowest r m f b d e' q w =
           let c = subst (λ (r : Complement). gaps.Complemented te len (take (2 * k - 0) t) rs gs₀ gs r) e' d in
           record {
             told = λ ss fs v pos.
-                let r = gaps-read te len (take (2 * k - 0) t) rs gs₀ gs m c in
-                w ∙ read-fit r n b 0 (rw q (power-is p xs ss fs v))
-                ∙ ap accepted (rw (q, block-is p xs ss fs v, lent-pairs, laid-held p xs ss fs v) (sym (least-is-fit (world_of p xs) v.sound n pos)));
+                let r = gaps_read te len (take (2 * k - 0) t) rs gs₀ gs m c in
+                w ∙ read_fit r n b 0 (rw q (power_is p xs ss fs v))
+                ∙ ap accepted (rw (q, block_is p xs ss fs v, lent_pairs, laid_held p xs ss fs v) (sym (least_is_fit (world_of p xs) v.sound n pos)));
           }

@@ -15,13 +15,13 @@ use Rattle.plan_record.specs.Plan.{region_of, regions_of, world_of, Mapped, Vali
 use Rattle.plan_record.specs.declared.Plan.{Plan}
 use Rattle.plan_record.specs.declared.Region.{Region}
 use Rattle.model.proofs.Sound.{Regular}
-use Rattle.numbers.proofs.Lists.{all-at, mapped_at, distinct-at}
-use Rattle.plan_record.proofs.Places.{known-place, region-place}
+use Rattle.numbers.proofs.Lists.{all_at, mapped_at, distinct_at}
+use Rattle.plan_record.proofs.Places.{known_place, region_place}
 use Rattle.model.specs.Region as model
 
 -- the numbers of the regions, in the record and in the world
-pub numbers-same : (xs : List ℕ) (gs : List Region) → map model.id_of (map (region_of xs) gs) ≡ map number_of gs
-numbers-same xs gs = map-map model.id_of (region_of xs) gs
+pub numbers_same : (xs : List ℕ) (gs : List Region) → map model.id_of (map (region_of xs) gs) ≡ map number_of gs
+numbers_same xs gs = map-map model.id_of (region_of xs) gs
 
 abbrev pub region_at : Plan → ℕ → Region
 region_at p i = get_or p.regions i past_region
@@ -30,34 +30,34 @@ module _ (p : Plan) (xs : List ℕ) where
   pub known_is : (id : ℕ) → known (world_of p xs) id ≡ ltb (spot_of p id) (length (regions_of p))
   unfolding world_of known
   known_is id =
-      known-place id (map (region_of xs) (regions_of p))
-      ∙ rw (numbers-same xs (regions_of p), length-map (regions_of p) (region_of xs))
+      known_place id (map (region_of xs) (regions_of p))
+      ∙ rw (numbers_same xs (regions_of p), length-map (regions_of p) (region_of xs))
 
   module _ (id i m : ℕ) (e : i ≡ spot_of p id) (a : m ≡ length (regions_of p)) where
-    pub known-here : i < m → known (world_of p xs) id ≡ true
-    known-here h = known_is id ∙ lt-ltb (spot_of p id) (length (regions_of p)) (omega arith)
+    pub known_here : i < m → known (world_of p xs) id ≡ true
+    known_here h = known_is id ∙ lt-ltb (spot_of p id) (length (regions_of p)) (omega arith)
 
-    pub known-not : m ≤ i → known (world_of p xs) id ≡ false
-    known-not h = known_is id ∙ le-ltb (spot_of p id) (length (regions_of p)) (omega arith)
+    pub known_not : m ≤ i → known (world_of p xs) id ≡ false
+    known_not h = known_is id ∙ le-ltb (spot_of p id) (length (regions_of p)) (omega arith)
 
   module _ (i : ℕ) (h : i < length (regions_of p)) where
-    counted-below : i < p.count
-    counted-below = let m = length-take p.count p.regions in omega arith
+    counted_below : i < p.count
+    counted_below = let m = length-take p.count p.regions in omega arith
 
-    pub world-at : get_or (map (region_of xs) (regions_of p)) i model.no_region ≡ region_of xs (region_at p i)
-    world-at = mapped_at (region_of xs) (regions_of p) i past_region model.no_region h ∙ ap (region_of xs) (get_or-take p.count p.regions i past_region counted-below)
+    pub world_at : get_or (map (region_of xs) (regions_of p)) i model.no_region ≡ region_of xs (region_at p i)
+    world_at = mapped_at (region_of xs) (regions_of p) i past_region model.no_region h ∙ ap (region_of xs) (get_or-take p.count p.regions i past_region counted_below)
 
-    pub region-is : (id : ℕ) → i ≡ spot_of p id → region_in (world_of p xs) id ≡ region_of xs (region_at p i)
+    pub region_is : (id : ℕ) → i ≡ spot_of p id → region_in (world_of p xs) id ≡ region_of xs (region_at p i)
     unfolding world_of
-    region-is id e =
-        region-place id (map (region_of xs) (regions_of p))
-        ∙ ap (λ (n : ℕ). get_or (map (region_of xs) (regions_of p)) n model.no_region) (ap (place_of id) (numbers-same xs (regions_of p)) ∙ sym e)
-        ∙ world-at
+    region_is id e =
+        region_place id (map (region_of xs) (regions_of p))
+        ∙ ap (λ (n : ℕ). get_or (map (region_of xs) (regions_of p)) n model.no_region) (ap (place_of id) (numbers_same xs (regions_of p)) ∙ sym e)
+        ∙ world_at
 
 module _ (p : Plan) (xs ss fs : List ℕ) (v : Valid p xs ss fs) where
-  pub log-most : p.limits.log2_block ≤ 16
+  pub log_most : p.limits.log2_block ≤ 16
   unfolding world_of
-  log-most = v.sound.container.high
+  log_most = v.sound.container.high
 
   pub counted_is : length (regions_of p) ≡ p.count
   counted_is = length-take-le p.count p.regions (omega (arith, v.full, v.few))
@@ -66,32 +66,32 @@ module _ (p : Plan) (xs ss fs : List ℕ) (v : Valid p xs ss fs) where
     within : i < length p.regions
     within = omega (arith, counted_is, v.full, v.few)
 
-    pub mapped-is : Mapped xs ss fs (region_at p i)
-    mapped-is =
+    pub mapped_is : Mapped xs ss fs (region_at p i)
+    mapped_is =
         subst (Mapped xs ss fs) (get_or-take p.count p.regions i past_region (omega (arith, counted_is)))
-        (all-at (Mapped xs ss fs) (regions_of p) i past_region v.mapped h)
+        (all_at (Mapped xs ss fs) (regions_of p) i past_region v.mapped h)
 
     pub row_is : (region_at p i).row < 64
-    row_is = all-at (λ (r : Region). r.row < 64) p.regions i past_region v.inside within
+    row_is = all_at (λ (r : Region). r.row < 64) p.regions i past_region v.inside within
 
     -- no other region has its row
-    pub rows-differ : (k : ℕ) → k < 64 → (k ≡ i → ⊥) → (region_at p k).row ≡ (region_at p i).row → ⊥
-    rows-differ k l d e =
+    pub rows_differ : (k : ℕ) → k < 64 → (k ≡ i → ⊥) → (region_at p k).row ≡ (region_at p i).row → ⊥
+    rows_differ k l d e =
         let m = length-map p.regions row_of in
         let w = within in
         let q : k < length p.regions = omega (arith, v.full) in
-        distinct-at (map row_of p.regions) 0 k i v.rows (omega arith) (omega arith) d
+        distinct_at (map row_of p.regions) 0 k i v.rows (omega arith) (omega arith) d
         (mapped_at row_of p.regions k past_region 0 q ∙ e ∙ sym (mapped_at row_of p.regions i past_region 0 w))
 
     -- what the model's invariant says of it
-    pub regular-is : Regular p.limits (region_of xs (region_at p i))
+    pub regular_is : Regular p.limits (region_of xs (region_at p i))
     unfolding world_of
-    regular-is =
-        subst (Regular p.limits) (world-at p xs i h)
-        (all-at (Regular p.limits) (map (region_of xs) (regions_of p)) i model.no_region v.sound.regular (rw length-map h))
+    regular_is =
+        subst (Regular p.limits) (world_at p xs i h)
+        (all_at (Regular p.limits) (map (region_of xs) (regions_of p)) i model.no_region v.sound.regular (rw length-map h))
 
     pub tagged_is : HasKey tag_of (region_at p i).tag (world_of p xs).rows
     unfolding world_of
     tagged_is =
-        subst (λ (r : model.Region). HasKey tag_of r.tag (world_of p xs).rows) (world-at p xs i h)
-        (all-at (λ (r : model.Region). HasKey tag_of r.tag (world_of p xs).rows) (map (region_of xs) (regions_of p)) i model.no_region v.sound.tagged (rw length-map h))
+        subst (λ (r : model.Region). HasKey tag_of r.tag (world_of p xs).rows) (world_at p xs i h)
+        (all_at (λ (r : model.Region). HasKey tag_of r.tag (world_of p xs).rows) (map (region_of xs) (regions_of p)) i model.no_region v.sound.tagged (rw length-map h))

@@ -15,25 +15,25 @@ use Rattle.plan_record.specs.declared.Plan.{Plan}
 use Rattle.plan_record.specs.declared.Region.{Region}
 use Rattle.sort.specs.Places.{range_of, Put}
 use Rattle.sort.specs.declared.pair.Pair.{Pair}
-use Rattle.numbers.proofs.Pairs.{same-pairs}
-use Rattle.plan_record.proofs.Rows.{row-length}
+use Rattle.numbers.proofs.Pairs.{same_pairs}
+use Rattle.plan_record.proofs.Rows.{row_length}
 
 -- ---- stores one behind the other
 
 module _ {A : Type 0} where
-  pub sets-append : (l : List A) (i : ℕ) (xs ys : List A) → sets l i (xs ++ ys) ≡ sets (sets l i xs) (i + length xs) ys
-  sets-append l i [] ys = rw (add-zero i)
-  sets-append l i (x ∷ xs) ys =
+  pub sets_append : (l : List A) (i : ℕ) (xs ys : List A) → sets l i (xs ++ ys) ≡ sets (sets l i xs) (i + length xs) ys
+  sets_append l i [] ys = rw (add-zero i)
+  sets_append l i (x ∷ xs) ys =
       let e : suc i + length xs ≡ i + suc (length xs) = omega arith in
-      sets-append (set l i x) (suc i) xs ys ∙ ap (λ (n : ℕ). sets (sets (set l i x) (suc i) xs) n ys) e
+      sets_append (set l i x) (suc i) xs ys ∙ ap (λ (n : ℕ). sets (sets (set l i x) (suc i) xs) n ys) e
 
-  pub sets-next : (l : List A) (i n : ℕ) (xs : List A) (x : A) → length xs ≡ n → sets l i (xs ++ (x ∷ [])) ≡ set (sets l i xs) (i + n) x
-  sets-next l i n xs x e = sets-append l i xs (x ∷ []) ∙ ap (λ (m : ℕ). set (sets l i xs) (i + m) x) e
+  pub sets_next : (l : List A) (i n : ℕ) (xs : List A) (x : A) → length xs ≡ n → sets l i (xs ++ (x ∷ [])) ≡ set (sets l i xs) (i + n) x
+  sets_next l i n xs x e = sets_append l i xs (x ∷ []) ∙ ap (λ (m : ℕ). set (sets l i xs) (i + m) x) e
 
 -- what stands behind the pairs, after one more store
-pub then-behind : (s t u : List ℕ) {i : ℕ} {p : Pair} → Put t i p u → length (pairs t) ≡ length (pairs s)
+pub then_behind : (s t u : List ℕ) {i : ℕ} {p : Pair} → Put t i p u → length (pairs t) ≡ length (pairs s)
     → drop (2 * length (pairs s)) t ≡ drop (2 * length (pairs s)) s → drop (2 * length (pairs s)) u ≡ drop (2 * length (pairs s)) s
-then-behind s t u w e b = subst (λ (n : ℕ). drop (2 * n) u ≡ drop (2 * n) t) e w.behind ∙ b
+then_behind s t u w e b = subst (λ (n : ℕ). drop (2 * n) u ≡ drop (2 * n) t) e w.behind ∙ b
 
 -- ---- the loop over a list of ranges
 
@@ -44,24 +44,24 @@ pub record Laying (s t : List ℕ) (at k : ℕ) (rs : List Range) : Type 0 where
   pub behind : drop (2 * length (pairs s)) t ≡ drop (2 * length (pairs s)) s
 
 module _ {s : List ℕ} {at : ℕ} {rs : List Range} where
-  pub laying-begins : Laying s s at 0 rs
-  laying-begins = record { below = omega arith; whole = refl; stored = refl; behind = refl }
+  pub laying_begins : Laying s s at 0 rs
+  laying_begins = record { below = omega arith; whole = refl; stored = refl; behind = refl }
 
-  pub laying-turns : {t u : List ℕ} {k : ℕ} {p : Pair} → Laying s t at k rs → k < length rs → Put t (at + k) p u → length u ≡ length t
+  pub laying_turns : {t u : List ℕ} {k : ℕ} {p : Pair} → Laying s t at k rs → k < length rs → Put t (at + k) p u → length u ≡ length t
       → range_of p ≡ get_or rs k blank → Laying s u at (k + 1) rs
-  laying-turns {t} {u} {k} {p} g h w n e =
+  laying_turns {t} {u} {k} {p} g h w n e =
       record {
         below = omega arith;
         whole = n ∙ g.whole;
         stored =
             w.stored ∙ rw (e, g.stored)
             (sym (ap (sets (pairs s) at) (ap (λ (n : ℕ). take n rs) (add-one k) ∙ take-suc rs k blank h)
-            ∙ sets-next (pairs s) at k (take k rs) (get_or rs k blank) (length-take-le k rs g.below)));
-        behind = then-behind s t u w (same-pairs t s g.whole) g.behind;
+            ∙ sets_next (pairs s) at k (take k rs) (get_or rs k blank) (length-take-le k rs g.below)));
+        behind = then_behind s t u w (same_pairs t s g.whole) g.behind;
       }
 
-  pub laying-ends : {t : List ℕ} {k : ℕ} → Laying s t at k rs → length rs ≤ k → Lays s t at rs
-  laying-ends {t} {k} g h =
+  pub laying_ends : {t : List ℕ} {k : ℕ} → Laying s t at k rs → length rs ≤ k → Lays s t at rs
+  laying_ends {t} {k} g h =
       let e : k ≡ length rs = omega (arith, g.below) in
       record { stored = g.stored ∙ ap (sets (pairs s) at) (ap (λ (n : ℕ). take n rs) e ∙ take-length rs); behind = g.behind }
 
@@ -71,34 +71,34 @@ pub part_at : (xs : List ℕ) (n first k : ℕ) → k < n → get_or (take n (dr
 part_at xs n first k h = get_or-take n (drop first (pairs xs)) k blank h ∙ get_or-drop first (pairs xs) k blank
 
 module _ (xs : List ℕ) (g : Region) (long : places ≤ length (pairs xs)) where
-  pub extents-length : length (region_extents xs g) ≡ min g.extent_count 60
+  pub extents_length : length (region_extents xs g) ≡ min g.extent_count 60
   unfolding region_extents
-  extents-length =
-      let n = row-length (pairs xs) (min g.row 63) (omega arith) long in
+  extents_length =
+      let n = row_length (pairs xs) (min g.row 63) (omega arith) long in
       length-take-le (min g.extent_count 60) (row_in (min g.row 63) (pairs xs)) (omega arith)
 
   -- as the loop reads them, n from row i
   module _ (n i : ℕ) (a : n ≡ min g.extent_count 60) (b : i ≡ min g.row 63) where
-    pub part-extents : take n (drop (60 * i) (pairs xs)) ≡ region_extents xs g
+    pub part_extents : take n (drop (60 * i) (pairs xs)) ≡ region_extents xs g
     unfolding region_extents row_in
-    part-extents = rw (a, b) (sym (take-take (min g.extent_count 60) 60 (drop (60 * min g.row 63) (pairs xs)) (omega arith)))
+    part_extents = rw (a, b) (sym (take-take (min g.extent_count 60) 60 (drop (60 * min g.row 63) (pairs xs)) (omega arith)))
 
     pub part_length : length (take n (drop (60 * i) (pairs xs))) ≡ n
-    part_length = ap length part-extents ∙ extents-length ∙ sym a
+    part_length = ap length part_extents ∙ extents_length ∙ sym a
 
-  pub laid-length : (block : ℕ) → length (laid block xs g) ≡ 2 + min g.extent_count 60
+  pub laid_length : (block : ℕ) → length (laid block xs g) ≡ 2 + min g.extent_count 60
   unfolding laid
-  laid-length block = let e = extents-length in omega arith
+  laid_length block = let e = extents_length in omega arith
 
-  pub lays-footprint : (block : ℕ) (s t u v : List ℕ) (at : ℕ) (p q : Pair) → range_of p ≡ range g.header_a block → range_of q ≡ range g.header_b block
+  pub lays_footprint : (block : ℕ) (s t u v : List ℕ) (at : ℕ) (p q : Pair) → range_of p ≡ range g.header_a block → range_of q ≡ range g.header_b block
       → Put s at p t → Put t (at + 1) q u → Lays u v (at + 2) (region_extents xs g) → length t ≡ length s → length u ≡ length s → Lays s v at (laid block xs g)
   unfolding laid
-  lays-footprint block s t u v at p q a b m n l lt lu =
+  lays_footprint block s t u v at p q a b m n l lt lu =
       record {
         stored = l.stored ∙ rw (n.stored, m.stored, a, b) (let e : at + 2 ≡ suc (suc at) = omega arith in rw (e, add-one at));
         behind =
-            subst (λ (k : ℕ). drop (2 * k) v ≡ drop (2 * k) u) (same-pairs u s lu) l.behind
-            ∙ then-behind s t u n (same-pairs t s lt) m.behind;
+            subst (λ (k : ℕ). drop (2 * k) v ≡ drop (2 * k) u) (same_pairs u s lu) l.behind
+            ∙ then_behind s t u n (same_pairs t s lt) m.behind;
       }
 
 -- ---- the loop over the regions
@@ -118,18 +118,18 @@ pub record LayingAll (block : ℕ) (xs : List ℕ) (gs : List Region) (s t : Lis
   pub behind : drop (2 * length (pairs s)) t ≡ drop (2 * length (pairs s)) s
 
 module _ {block : ℕ} {xs : List ℕ} {gs : List Region} {s : List ℕ} where
-  pub all-begins : LayingAll block xs gs s s 0 0
+  pub all_begins : LayingAll block xs gs s s 0 0
   unfolding laid_each
-  all-begins = record { below = omega arith; few = omega arith; ends = refl; whole = refl; stored = refl; behind = refl }
+  all_begins = record { below = omega arith; few = omega arith; ends = refl; whole = refl; stored = refl; behind = refl }
 
-  pub all-turns : {t u : List ℕ} {i at n : ℕ} → LayingAll block xs gs s t i at → i < length gs → places ≤ length (pairs xs)
+  pub all_turns : {t u : List ℕ} {i at n : ℕ} → LayingAll block xs gs s t i at → i < length gs → places ≤ length (pairs xs)
       → Lays t u at (laid block xs (get_or gs i past_region)) → n ≡ at + length (laid block xs (get_or gs i past_region)) → length u ≡ length t
       → LayingAll block xs gs s u (i + 1) n
-  all-turns {t} {u} {i} {at} {n} g h long l e w =
+  all_turns {t} {u} {i} {at} {n} g h long l e w =
       let r = get_or gs i past_region in
       let f : laid_each block xs (take (i + 1) gs) ≡ laid_each block xs (take i gs) ++ laid block xs r =
       ap (λ (m : ℕ). laid_each block xs (take m gs)) (add-one i) ∙ ap (laid_each block xs) (take-suc gs i past_region h) ∙ each_next block xs (take i gs) r in
-      let m = laid-length xs r long block in
+      let m = laid_length xs r long block in
       let b = g.few in
       record {
         below = omega arith;
@@ -138,26 +138,26 @@ module _ {block : ℕ} {xs : List ℕ} {gs : List Region} {s : List ℕ} where
         ends = rw f (rw length-append (omega (arith, g.ends)));
         stored =
             l.stored ∙ rw g.stored
-            (sym (ap (sets (pairs s) 0) f ∙ sets-append (pairs s) 0 (laid_each block xs (take i gs)) (laid block xs r)
+            (sym (ap (sets (pairs s) 0) f ∙ sets_append (pairs s) 0 (laid_each block xs (take i gs)) (laid block xs r)
             ∙ ap (λ (k : ℕ). sets (sets (pairs s) 0 (laid_each block xs (take i gs))) k (laid block xs r)) (let q : 0 + length (laid_each block xs (take i gs)) ≡ at = omega (arith, g.ends) in q)));
-        behind = subst (λ (k : ℕ). drop (2 * k) u ≡ drop (2 * k) t) (same-pairs t s g.whole) l.behind ∙ g.behind;
+        behind = subst (λ (k : ℕ). drop (2 * k) u ≡ drop (2 * k) t) (same_pairs t s g.whole) l.behind ∙ g.behind;
       }
 
 module _ (p : Plan) {block : ℕ} {xs : List ℕ} {s t : List ℕ} {i at : ℕ} (g : LayingAll block xs (regions_of p) s t i at) where
-  pub plan-turns : {u : List ℕ} {n : ℕ} → i < length (regions_of p) → places ≤ length (pairs xs)
+  pub plan_turns : {u : List ℕ} {n : ℕ} → i < length (regions_of p) → places ≤ length (pairs xs)
       → Lays t u at (laid block xs (get_or p.regions i past_region)) → n ≡ at + length (laid block xs (get_or p.regions i past_region)) → length u ≡ length t
       → LayingAll block xs (regions_of p) s u (i + 1) n
-  plan-turns {u} {n} h long l e w =
+  plan_turns {u} {n} h long l e w =
       let c : i < p.count = let m = length-take p.count p.regions in omega arith in
       let q = get_or-take p.count p.regions i past_region c in
-      all-turns g h long (rw q l) (rw q e) w
+      all_turns g h long (rw q l) (rw q e) w
 
   module _ (b : block ≡ block_in p) (h : length (regions_of p) ≤ i) where
     whole_is : laid_each block xs (take i (regions_of p)) ≡ laid_all p xs
     whole_is = rw b (ap (laid_each (block_in p) xs) (take_all i (regions_of p) h))
 
-    pub all-ends : Lays s t 0 (laid_all p xs)
-    all-ends = record { stored = g.stored ∙ ap (sets (pairs s) 0) whole_is; behind = g.behind }
+    pub all_ends : Lays s t 0 (laid_all p xs)
+    all_ends = record { stored = g.stored ∙ ap (sets (pairs s) 0) whole_is; behind = g.behind }
 
-    pub all-length : at ≡ length (laid_all p xs)
-    all-length = g.ends ∙ ap length whole_is
+    pub all_length : at ≡ length (laid_all p xs)
+    all_length = g.ends ∙ ap length whole_is

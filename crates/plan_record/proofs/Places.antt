@@ -14,26 +14,26 @@ use Rattle.numbers.specs.Keyed.{has_key, keyed}
 use Rattle.numbers.specs.Lists.{any}
 use Rattle.plan_record.specs.Plan.{regions_of, number_of, place_of, spot_of, past_region}
 use Rattle.plan_record.specs.declared.Plan.{Plan}
-use Rattle.numbers.proofs.Cases.{by-eq, by-lt}
+use Rattle.numbers.proofs.Cases.{by_eq, by_lt}
 use Rattle.numbers.proofs.Lists.{mapped_at}
 
 -- ---- the search from a place on
 
 module _ (id : ℕ) where
-  pub place-most : (ns : List ℕ) → place_of id ns ≤ length ns
+  pub place_most : (ns : List ℕ) → place_of id ns ≤ length ns
   unfolding place_of
-  place-most [] = omega arith
-  place-most (n ∷ ns) =
-      let l = place-most ns in by-eq n id (λ e. simp (eq-eqb _ _ e) (omega arith)) (λ d. simp (ne_eqb _ _ d) (omega arith))
+  place_most [] = omega arith
+  place_most (n ∷ ns) =
+      let l = place_most ns in by_eq n id (λ e. simp (eq-eqb _ _ e) (omega arith)) (λ d. simp (ne_eqb _ _ d) (omega arith))
 
   module _ (ns : List ℕ) (i : ℕ) where
     pub place_here : i < length ns → get_or ns i 0 ≡ id → place_of id (drop i ns) ≡ 0
     unfolding place_of
     place_here h e = rw (drop-cons ns i 0 h) (simp (eq-eqb _ _ e))
 
-    pub place-later : i < length ns → (get_or ns i 0 ≡ id → ⊥) → place_of id (drop i ns) ≡ 1 + place_of id (drop (i + 1) ns)
+    pub place_later : i < length ns → (get_or ns i 0 ≡ id → ⊥) → place_of id (drop i ns) ≡ 1 + place_of id (drop (i + 1) ns)
     unfolding place_of
-    place-later h d = rw (drop-cons ns i 0 h) (rw add-one (simp (ne_eqb _ _ d) (omega arith)))
+    place_later h d = rw (drop-cons ns i 0 h) (rw add-one (simp (ne_eqb _ _ d) (omega arith)))
 
     pub place_none : length ns ≤ i → place_of id (drop i ns) ≡ 0
     unfolding place_of
@@ -54,46 +54,46 @@ module _ (p : Plan) (id i : ℕ) (h : i < length (regions_of p)) where
       mapped_at number_of (regions_of p) i past_region 0 h ∙ ap number_of (get_or-take p.count p.regions i past_region l)
 
   module _ (s : spot_of p id ≡ i + place_of id (drop i numbers)) where
-    pub spot-here : (get_or p.regions i past_region).number ≡ id → i ≡ spot_of p id
-    spot-here e = let z = place_here id numbers i inside (number_at ∙ e) in omega arith
+    pub spot_here : (get_or p.regions i past_region).number ≡ id → i ≡ spot_of p id
+    spot_here e = let z = place_here id numbers i inside (number_at ∙ e) in omega arith
 
-    pub spot-later : ((get_or p.regions i past_region).number ≡ id → ⊥) → spot_of p id ≡ i + 1 + place_of id (drop (i + 1) numbers)
-    spot-later d = let z = place-later id numbers i inside (λ e. d (sym number_at ∙ e)) in omega arith
+    pub spot_later : ((get_or p.regions i past_region).number ≡ id → ⊥) → spot_of p id ≡ i + 1 + place_of id (drop (i + 1) numbers)
+    spot_later d = let z = place_later id numbers i inside (λ e. d (sym number_at ∙ e)) in omega arith
 
-pub spot-none : (p : Plan) (id n i : ℕ) → n ≡ length (regions_of p) → n ≤ i → i ≤ n → spot_of p id ≡ i + place_of id (drop i (map number_of (regions_of p)))
+pub spot_none : (p : Plan) (id n i : ℕ) → n ≡ length (regions_of p) → n ≤ i → i ≤ n → spot_of p id ≡ i + place_of id (drop i (map number_of (regions_of p)))
     → n ≡ spot_of p id
-spot-none p id n i e l m s = let z = place_none id (map number_of (regions_of p)) i (rw length-map (omega arith)) in omega arith
+spot_none p id n i e l m s = let z = place_none id (map number_of (regions_of p)) i (rw length-map (omega arith)) in omega arith
 
 -- ---- the region at that place
 
-ltb-suc : (m n : ℕ) → ltb m n ≡ ltb (suc m) (suc n)
-ltb-suc m n = by-lt m n (λ l. lt-ltb _ _ l ∙ sym (lt-ltb (suc m) (suc n) (omega arith))) (λ l. le-ltb _ _ l ∙ sym (le-ltb (suc m) (suc n) (omega arith)))
+ltb_suc : (m n : ℕ) → ltb m n ≡ ltb (suc m) (suc n)
+ltb_suc m n = by_lt m n (λ l. lt-ltb _ _ l ∙ sym (lt-ltb (suc m) (suc n) (omega arith))) (λ l. le-ltb _ _ l ∙ sym (le-ltb (suc m) (suc n) (omega arith)))
 
 module _ (id : ℕ) where
   abbrev pub spot : List Region → ℕ
   spot rs = place_of id (map id_of rs)
 
-  pub known-place : (rs : List Region) → has_key id_of id rs ≡ ltb (spot rs) (length rs)
+  pub known_place : (rs : List Region) → has_key id_of id rs ≡ ltb (spot rs) (length rs)
   unfolding place_of has_key any
-  known-place [] = refl
-  known-place (r ∷ rs) =
-      by-eq r.number id (λ e. simp (eq-eqb _ _ e, true-or) (sym (lt-ltb 0 (length (r ∷ rs)) (omega arith))))
-      (λ d. simp (ne_eqb _ _ d, false-or) (known-place rs ∙ ltb-suc (spot rs) (length rs)))
+  known_place [] = refl
+  known_place (r ∷ rs) =
+      by_eq r.number id (λ e. simp (eq-eqb _ _ e, true-or) (sym (lt-ltb 0 (length (r ∷ rs)) (omega arith))))
+      (λ d. simp (ne_eqb _ _ d, false-or) (known_place rs ∙ ltb_suc (spot rs) (length rs)))
 
-  pub region-place : (rs : List Region) → region_of id rs ≡ get_or rs (spot rs) no_region
+  pub region_place : (rs : List Region) → region_of id rs ≡ get_or rs (spot rs) no_region
   unfolding place_of keyed
-  region-place [] = refl
-  region-place (r ∷ rs) =
-      by-eq r.number id (λ e. simp (eq-eqb _ _ e)) (λ d. simp (ne_eqb _ _ d) (region-place rs))
+  region_place [] = refl
+  region_place (r ∷ rs) =
+      by_eq r.number id (λ e. simp (eq-eqb _ _ e)) (λ d. simp (ne_eqb _ _ d) (region_place rs))
 
-  pub on-place : (f : Region → Region) (rs : List Region) → on_region id f rs ≡ set rs (spot rs) (f (get_or rs (spot rs) no_region))
+  pub on_place : (f : Region → Region) (rs : List Region) → on_region id f rs ≡ set rs (spot rs) (f (get_or rs (spot rs) no_region))
   unfolding place_of on_region
-  on-place f [] = refl
-  on-place f (r ∷ rs) =
-      by-eq r.number id (λ e. simp (eq-eqb _ _ e)) (λ d. simp (ne_eqb _ _ d) (ap (λ (l : List Region). r ∷ l) (on-place f rs)))
+  on_place f [] = refl
+  on_place f (r ∷ rs) =
+      by_eq r.number id (λ e. simp (eq-eqb _ _ e)) (λ d. simp (ne_eqb _ _ d) (ap (λ (l : List Region). r ∷ l) (on_place f rs)))
 
-  pub without-place : (rs : List Region) → without id rs ≡ take (spot rs) rs ++ drop (suc (spot rs)) rs
+  pub without_place : (rs : List Region) → without id rs ≡ take (spot rs) rs ++ drop (suc (spot rs)) rs
   unfolding place_of without
-  without-place [] = refl
-  without-place (r ∷ rs) =
-      by-eq r.number id (λ e. simp (eq-eqb _ _ e)) (λ d. simp (ne_eqb _ _ d) (ap (λ (l : List Region). r ∷ l) (without-place rs)))
+  without_place [] = refl
+  without_place (r ∷ rs) =
+      by_eq r.number id (λ e. simp (eq-eqb _ _ e)) (λ d. simp (ne_eqb _ _ d) (ap (λ (l : List Region). r ∷ l) (without_place rs)))

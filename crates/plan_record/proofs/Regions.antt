@@ -8,5 +8,5 @@ use Rattle.plan_record.specs.declared.Region.{Region}
 use Rattle.numbers.proofs.Lists.{all_left}
 
 -- what all 64 have, those that are counted have
-pub all-counted : (P : Region → Type 0) (p : Plan) → All P p.regions → All P (regions_of p)
-all-counted P p a = all_left P (regions_of p) (drop p.count p.regions) (subst (All P) (sym (take-append-drop p.count p.regions)) a)
+pub all_counted : (P : Region → Type 0) (p : Plan) → All P p.regions → All P (regions_of p)
+all_counted P p a = all_left P (regions_of p) (drop p.count p.regions) (subst (All P) (sym (take-append-drop p.count p.regions)) a)

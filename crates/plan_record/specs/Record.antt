@@ -36,7 +36,7 @@ blank_record =
       header = record { region_id = 0; kind = Append; flags = 0; ready = true; log2_block = 0; extent_count = 0 };
     }
 
--- A region as open's own record: `handed-again` (proofs/Filing) says that open makes the same region of it.
+-- A region as open's own record: `handed_again` (proofs/Filing) says that open makes the same region of it.
 abbrev pub handed_from : region.Region → model.Record
 handed_from r =
     record {

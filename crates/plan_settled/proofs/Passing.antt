@@ -15,30 +15,30 @@ use Rattle.plan_checks.specs.Early.{early_refusal, ranges_of}
 use Rattle.plan_checks.specs.Opening.{records_of, opening_of}
 use Rattle.plan_record.specs.declared.Record.{Record}
 use Rattle.plan_settled.specs.Settled.{Covered, Passed, Layable}
-use Rattle.footprint.proofs.Regular.{accepted-regular}
-use Rattle.model.proofs.Opening.{count_of, listed_by, each_both, ListsIn, lists-pass, LogsIn, logs-pass}
+use Rattle.footprint.proofs.Regular.{accepted_regular}
+use Rattle.model.proofs.Opening.{count_of, listed_by, each_both, ListsIn, lists_pass, LogsIn, logs_pass}
 use Rattle.model.proofs.Refused.{marked_in}
-use Rattle.numbers.proofs.Lists.{all-imp}
+use Rattle.numbers.proofs.Lists.{all_imp}
 use Rattle.numbers.proofs.Pairs.{length_pairs}
-use Rattle.plan_checks.proofs.Early.{open-early, open-late, early-passed}
-use Rattle.plan_checks.proofs.Reading.{records-length}
+use Rattle.plan_checks.proofs.Early.{open_early, open_late, early_passed}
+use Rattle.plan_checks.proofs.Reading.{records_length}
 use Rattle.model.specs.Open as model
 
-each-itself : (ms : List model.Record) (l : List ℕ) → model.each_record (λ (r : model.Record) (xs : List ℕ). r) ms l ≡ ms
+each_itself : (ms : List model.Record) (l : List ℕ) → model.each_record (λ (r : model.Record) (xs : List ℕ). r) ms l ≡ ms
 unfolding model.each_record
-each-itself [] l = refl
-each-itself (r ∷ ms) l = ap (λ (t : List model.Record). r ∷ t) (each-itself ms _)
+each_itself [] l = refl
+each_itself (r ∷ ms) l = ap (λ (t : List model.Record). r ∷ t) (each_itself ms _)
 
-sum-bounded : (f : model.Record → ℕ) (b : ℕ) (ms : List model.Record) → All (λ (r : model.Record). f r ≤ b) ms → sum (map f ms) ≤ b * length ms
+sum_bounded : (f : model.Record → ℕ) (b : ℕ) (ms : List model.Record) → All (λ (r : model.Record). f r ≤ b) ms → sum (map f ms) ≤ b * length ms
 unfolding sum
-sum-bounded f b [] a = omega arith
-sum-bounded f b (r ∷ ms) a = let i = sum-bounded f b ms a.1 in let h = a.0 in let e = mul-suc b (length ms) in omega arith
+sum_bounded f b [] a = omega arith
+sum_bounded f b (r ∷ ms) a = let i = sum_bounded f b ms a.1 in let h = a.0 in let e = mul-suc b (length ms) in omega arith
 
 -- a record whose check passes lists its committed extents
-pub check-lists : (lim : Limits) (r : model.Record) (xs : List ℕ) → model.record_refusal lim r xs ≡ 0 → count_of r ≤ listed_by r
-check-lists lim r xs z =
+pub check_lists : (lim : Limits) (r : model.Record) (xs : List ℕ) → model.record_refusal lim r xs ≡ 0 → count_of r ≤ listed_by r
+check_lists lim r xs z =
     ⊎_elim (λ e. omega arith) (λ e. omega (arith, e.1))
-    (accepted-regular lim r.number r.entry r.header xs (2 * (count_of r + 2)) z).agreed.count
+    (accepted_regular lim r.number r.entry r.header xs (2 * (count_of r + 2)) z).agreed.count
 
 module _ {lim : Limits} {rs : List Record} {n : ℕ} {l : List ℕ} {k : ℕ} (p : Passed lim rs n l k) where
   abbrev pub opening : model.Opening
@@ -47,55 +47,55 @@ module _ {lim : Limits} {rs : List Record} {n : ℕ} {l : List ℕ} {k : ℕ} (p
   abbrev ms : List model.Record
   ms = records_of rs n
 
-  pub passed-lists : ListsIn opening
-  passed-lists = lists-pass opening (early-passed opening p.none).0.lists
+  pub passed_lists : ListsIn opening
+  passed_lists = lists_pass opening (early_passed opening p.none).0.lists
 
-  pub passed-logs : LogsIn opening
-  passed-logs = logs-pass opening (early-passed opening p.none).0.logs
+  pub passed_logs : LogsIn opening
+  passed_logs = logs_pass opening (early_passed opening p.none).0.logs
 
-  pub passed-few : n ≤ 64
-  passed-few = omega (arith, passed-lists.few, records-length rs n)
+  pub passed_few : n ≤ 64
+  passed_few = omega (arith, passed_lists.few, records_length rs n)
 
-  pub passed-all : All Covered ms
-  passed-all =
-      subst (All Covered) (each-itself ms l)
+  pub passed_all : All Covered ms
+  passed_all =
+      subst (All Covered) (each_itself ms l)
       (each_both (model.record_refusal lim) (λ (r : model.Record) (xs : List ℕ). r) (λ (r : model.Record). count_of r ≤ 60) (λ (m : ℕ). m ≡ 0)
       Covered
-      (λ r xs c z. check-lists lim r xs z)
+      (λ r xs c z. check_lists lim r xs z)
       ms
       l
-      passed-lists.counts
-      (early-passed opening p.none).1)
+      passed_lists.counts
+      (early_passed opening p.none).1)
 
-  pub passed-ranges : sum (map ranges_of ms) ≤ 3968
-  passed-ranges =
-      let b = sum-bounded ranges_of 62 ms (all-imp (λ (r : model.Record). count_of r ≤ 60) (λ (r : model.Record). ranges_of r ≤ 62) (λ r c. omega arith) ms passed-lists.counts) in
-      let f = passed-few in
-      let m = records-length rs n in
+  pub passed_ranges : sum (map ranges_of ms) ≤ 3968
+  passed_ranges =
+      let b = sum_bounded ranges_of 62 ms (all_imp (λ (r : model.Record). count_of r ≤ 60) (λ (r : model.Record). ranges_of r ≤ 62) (λ r c. omega arith) ms passed_lists.counts) in
+      let f = passed_few in
+      let m = records_length rs n in
       omega arith
 
-  pub passed-listed : 2 * sum (map listed_by ms) ≤ length l
-  passed-listed = omega (arith, passed-lists.listed, length_pairs l)
+  pub passed_listed : 2 * sum (map listed_by ms) ≤ length l
+  passed_listed = omega (arith, passed_lists.listed, length_pairs l)
 
-  pub passed-layable : (s : ℕ) → s ≡ 7936 → Layable lim ms (length l) s
-  passed-layable s e =
-      let r = passed-ranges in
-      record { high = passed-logs.high; all = passed-all; extents = passed-listed; room = omega arith }
+  pub passed_layable : (s : ℕ) → s ≡ 7936 → Layable lim ms (length l) s
+  passed_layable s e =
+      let r = passed_ranges in
+      record { high = passed_logs.high; all = passed_all; extents = passed_listed; room = omega arith }
 
-pub passed-from : (lim : Limits) (rs : List Record) (n : ℕ) (l : List ℕ) (k places j m : ℕ) → m ≡ early_refusal (opening_of lim rs n l k places) → m ≡ 0 → j ≡ k
+pub passed_from : (lim : Limits) (rs : List Record) (n : ℕ) (l : List ℕ) (k places j m : ℕ) → m ≡ early_refusal (opening_of lim rs n l k places) → m ≡ 0 → j ≡ k
     → Passed lim rs n l j
-passed-from lim rs n l k places j m e z q = rw q (record { places = places; none = sym e ∙ z })
+passed_from lim rs n l k places j m e z q = rw q (record { places = places; none = sym e ∙ z })
 
 -- ---- the number that open gives
 
 module _ (o : model.Opening) (m : ℕ) (e : m ≡ early_refusal o) where
-  pub refused-early : (m ≡ 0 → ⊥) → m ≡ model.open_refusal o
-  refused-early d = e ∙ sym (open-early o (λ z. d (e ∙ z)))
+  pub refused_early : (m ≡ 0 → ⊥) → m ≡ model.open_refusal o
+  refused_early d = e ∙ sym (open_early o (λ z. d (e ∙ z)))
 
-  pub refused-15 : m ≡ 0 → true ≡ marked_in o → 15 ≡ model.open_refusal o
+  pub refused_15 : m ≡ 0 → true ≡ marked_in o → 15 ≡ model.open_refusal o
   unfolding refuse
-  refused-15 z t = sym (open-late o (sym e ∙ z) ∙ ap (refuse 15) (sym t))
+  refused_15 z t = sym (open_late o (sym e ∙ z) ∙ ap (refuse 15) (sym t))
 
   pub refused_none : m ≡ 0 → false ≡ marked_in o → 0 ≡ model.open_refusal o
   unfolding refuse
-  refused_none z f = sym (open-late o (sym e ∙ z) ∙ ap (refuse 15) (sym f))
+  refused_none z f = sym (open_late o (sym e ∙ z) ∙ ap (refuse 15) (sym f))

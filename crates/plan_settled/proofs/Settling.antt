@@ -22,15 +22,15 @@ use Rattle.plan_settled.specs.Settled.{Covered, Passed, regions_in, seq_of, name
 use Rattle.settle.specs.Inner.{Enough}
 use Rattle.settle.specs.Settle.{marks_of, range_count, settle_fails, Settled}
 use Rattle.model.proofs.Opening.{count_of, listed_by}
-use Rattle.numbers.proofs.Lists.{all_both, all_map, map-all}
-use Rattle.numbers.proofs.Pairs.{length_pairs, even-list, written-pairs}
-use Rattle.plan_checks.proofs.Reading.{records-length}
+use Rattle.numbers.proofs.Lists.{all_both, all_map, map_all}
+use Rattle.numbers.proofs.Pairs.{length_pairs, even_list, written_pairs}
+use Rattle.plan_checks.proofs.Reading.{records_length}
 use Rattle.plan_record.proofs.Naming.{name-length}
-use Rattle.plan_settled.proofs.Naming.{bytes-length}
-use Rattle.plan_settled.proofs.Passing.{passed-lists, passed-few, passed-all, passed-ranges, passed-listed}
-use Rattle.settle.proofs.Marking.{marks-length}
-use Rattle.settle.proofs.Reading.{length-of}
-use Rattle.settle.proofs.Settling.{accepts, none-enough, none-regions}
+use Rattle.plan_settled.proofs.Naming.{bytes_length}
+use Rattle.plan_settled.proofs.Passing.{passed_lists, passed_few, passed_all, passed_ranges, passed_listed}
+use Rattle.settle.proofs.Marking.{marks_length}
+use Rattle.settle.proofs.Reading.{length_of}
+use Rattle.settle.proofs.Settling.{accepts, none_enough, none_regions}
 use Rattle.model.specs.Open as model
 use Rattle.settle.specs.Regions as settling
 
@@ -52,34 +52,34 @@ abbrev from : List Record → List ℕ → List Region
 from qs l = model.each_record model.region_from (map record_of qs) l
 
 -- a footprint has as many ranges as are counted
-print-length : (lim : Limits) (q : Record) (l : List ℕ) → count_of (record_of q) ≤ listed_by (record_of q) → 2 * listed_by (record_of q) ≤ length l
+print_length : (lim : Limits) (q : Record) (l : List ℕ) → count_of (record_of q) ≤ listed_by (record_of q) → 2 * listed_by (record_of q) ≤ length l
     → length (footprint lim (model.region_from (record_of q) (take (2 * listed_by (record_of q)) l))) ≡ ranges_of (record_of q)
-print-length lim q l c h =
+print_length lim q l c h =
     let p : length (take (count_of (record_of q)) (pairs (take (2 * listed_by (record_of q)) l))) ≡ count_of (record_of q) =
     length-take-le (count_of (record_of q)) (pairs (take (2 * listed_by (record_of q)) l))
     (let t = length_pairs (take (2 * listed_by (record_of q)) l) in let k = length-take-le (2 * listed_by (record_of q)) l h in omega arith) in
     omega arith
 
-name-front : (bytes rest : List ℕ) (n : ℕ) → n ≤ length bytes → take n (bytes ++ rest) ≡ name_of bytes n
-name-front bytes rest n h = take-append-le n bytes rest h ∙ sym (take-append-le n bytes (replicate n 0) h)
+name_front : (bytes rest : List ℕ) (n : ℕ) → n ≤ length bytes → take n (bytes ++ rest) ≡ name_of bytes n
+name_front bytes rest n h = take-append-le n bytes rest h ∙ sym (take-append-le n bytes (replicate n 0) h)
 
-pub usable-regions : (lim : Limits) (qs : List Record) (l s c : List ℕ) (r : List Range) (e m : List ℕ) → All Fair qs
+pub usable_regions : (lim : Limits) (qs : List Record) (l s c : List ℕ) (r : List Range) (e m : List ℕ) → All Fair qs
     → 2 * sum (map listed_by (map record_of qs)) ≤ length l
     → settling.regions (length qs) (map seq_of (map record_of qs) ++ s) (map ranges_of (map record_of qs) ++ c) (footprints lim (from qs l) ++ r) (map name_length (map record_of qs) ++ e) (bytes_of qs ++ m)
     ≡ map (model.usable lim) (from qs l)
 unfolding settling.regions footprints model.each_record bytes_of sum
-usable-regions lim [] l s c r e m a h = refl
-usable-regions lim (q ∷ qs) l s c r e m a h =
+usable_regions lim [] l s c r e m a h = refl
+usable_regions lim (q ∷ qs) l s c r e m a h =
     let f = a.0 in
     let k = 2 * listed_by (record_of q) in
     let fp : List Range = footprint lim (model.region_from (record_of q) (take k l)) in
     let n = name-length q.name q.name_len in
     let t : length (drop k l) ≡ length l - k = length-drop k l in
-    let i = usable-regions lim qs (drop k l) s c r e m a.1 (omega arith) in
-    let p = print-length lim q l f.listed (omega arith) in
+    let i = usable_regions lim qs (drop k l) s c r e m a.1 (omega arith) in
+    let p = print_length lim q l f.listed (omega arith) in
     let w : not (eqb (name_length (record_of q)) 255) ≡ true = ap not (ne_eqb (name_length (record_of q)) 255 (λ z. omega (arith, f.short))) in
     let v : take (name_length (record_of q)) (q.name ++ (bytes_of qs ++ m)) ≡ (record_of q).name =
-    rw n (name-front q.name (bytes_of qs ++ m) q.name_len (omega (arith, f.short, f.wide))) in
+    rw n (name_front q.name (bytes_of qs ++ m) q.name_len (omega (arith, f.short, f.wide))) in
     rw (
       append_assoc fp (footprints lim (from qs (drop k l))) r,
       append_assoc q.name (bytes_of qs) m,
@@ -92,23 +92,23 @@ usable-regions lim (q ∷ qs) l s c r e m a h =
     )
 
 -- the same of lists that have them in front
-regions-are : (lim : Limits) (qs : List Record) (n : ℕ) (l seqs counts : List ℕ) (ranges : List Range) (lens names s c : List ℕ) (r : List Range) (e m : List ℕ)
+regions_are : (lim : Limits) (qs : List Record) (n : ℕ) (l seqs counts : List ℕ) (ranges : List Range) (lens names s c : List ℕ) (r : List Range) (e m : List ℕ)
     → length qs ≡ n → All Fair qs → 2 * sum (map listed_by (map record_of qs)) ≤ length l
     → seqs ≡ map seq_of (map record_of qs) ++ s → counts ≡ map ranges_of (map record_of qs) ++ c → ranges ≡ footprints lim (from qs l) ++ r
     → lens ≡ map name_length (map record_of qs) ++ e → names ≡ bytes_of qs ++ m
     → settling.regions n seqs counts ranges lens names ≡ map (model.usable lim) (from qs l)
-regions-are lim qs n l seqs counts ranges lens names s c r e m j a h q1 q2 q3 q4 q5 =
-    rw (← j, q1, q2, q3, q4, q5) (usable-regions lim qs l s c r e m a h)
+regions_are lim qs n l seqs counts ranges lens names s c r e m j a h q1 q2 q3 q4 q5 =
+    rw (← j, q1, q2, q3, q4, q5) (usable_regions lim qs l s c r e m a h)
 
 -- the first n of enough records
-front-map : {A B : Type 0} (f : A → B) (rs : List A) (n : ℕ) (ys : List B) → length (take n rs) ≡ n → take n (map f rs ++ ys) ≡ map f (take n rs)
-front-map f rs zero ys e = refl
-front-map f [] (suc n) ys e = absurd (omega arith)
-front-map {A} {B} f (r ∷ rs) (suc n) ys e = ap (λ (t : List B). f r ∷ t) (front-map f rs n ys (omega arith))
+front_map : {A B : Type 0} (f : A → B) (rs : List A) (n : ℕ) (ys : List B) → length (take n rs) ≡ n → take n (map f rs ++ ys) ≡ map f (take n rs)
+front_map f rs zero ys e = refl
+front_map f [] (suc n) ys e = absurd (omega arith)
+front_map {A} {B} f (r ∷ rs) (suc n) ys e = ap (λ (t : List B). f r ∷ t) (front_map f rs n ys (omega arith))
 
-pub records-map : (rs : List Record) (n : ℕ) → length (take n rs) ≡ n → records_of rs n ≡ map record_of (take n rs)
+pub records_map : (rs : List Record) (n : ℕ) → length (take n rs) ≡ n → records_of rs n ≡ map record_of (take n rs)
 unfolding records_of
-records-map rs n e = front-map record_of rs n (replicate n blank_record) e
+records_map rs n e = front_map record_of rs n (replicate n blank_record) e
 
 -- ---- the lists
 
@@ -128,12 +128,12 @@ module _ {lim : Limits} {rs : List Record} {n : ℕ} {l : List ℕ} {k : ℕ} (p
     un = settling.lent 0 seqs counts ranges lens names
 
     whole : ms ≡ map record_of (take n rs)
-    whole = records-map rs n b.long
+    whole = records_map rs n b.long
 
     fair : All Fair (take n rs)
     fair =
-        let few = map-all Short record_of (take n rs) (subst (All Short) whole (passed-lists p).names) in
-        let all = map-all Covered record_of (take n rs) (subst (All Covered) whole (passed-all p)) in
+        let few = map_all Short record_of (take n rs) (subst (All Short) whole (passed_lists p).names) in
+        let all = map_all Covered record_of (take n rs) (subst (All Covered) whole (passed_all p)) in
         let Named : Record → Type 0 = λ q. Wide q × Short (record_of q) in
         all_both Named (λ (q : Record). Covered (record_of q)) Fair
         (λ q w c. record { wide = w.0; short = omega (arith, w.1, name-length q.name q.name_len); listed = c })
@@ -141,69 +141,69 @@ module _ {lim : Limits} {rs : List Record} {n : ℕ} {l : List ℕ} {k : ℕ} (p
         (all_both Wide (λ (q : Record). Short (record_of q)) Named (λ q w c. (w, c)) (take n rs) b.wide few)
         all
 
-    pub lent-regions : settling.regions_of us ≡ map (model.usable lim) (regions_in rs n l)
-    lent-regions =
-        let h : 2 * sum (map listed_by (map record_of (take n rs))) ≤ length l = subst (λ (t : List model.Record). 2 * sum (map listed_by t) ≤ length l) whole (passed-listed p) in
-        regions-are lim (take n rs) n l seqs counts (pairs ranges) lens names _ _ _ _ _ b.long fair h
-        (a.all-seqs ∙ ap (λ (t : List model.Record). map seq_of t ++ drop (length (map seq_of ms)) seqs₀) whole)
-        (a.all-counts ∙ ap (λ (t : List model.Record). map ranges_of t ++ drop (length (map ranges_of ms)) counts₀) whole)
-        (ap pairs c ∙ written-pairs prints ranges₀
+    pub lent_regions : settling.regions_of us ≡ map (model.usable lim) (regions_in rs n l)
+    lent_regions =
+        let h : 2 * sum (map listed_by (map record_of (take n rs))) ≤ length l = subst (λ (t : List model.Record). 2 * sum (map listed_by t) ≤ length l) whole (passed_listed p) in
+        regions_are lim (take n rs) n l seqs counts (pairs ranges) lens names _ _ _ _ _ b.long fair h
+        (a.all_seqs ∙ ap (λ (t : List model.Record). map seq_of t ++ drop (length (map seq_of ms)) seqs₀) whole)
+        (a.all_counts ∙ ap (λ (t : List model.Record). map ranges_of t ++ drop (length (map ranges_of ms)) counts₀) whole)
+        (ap pairs c ∙ written_pairs prints ranges₀
         ∙ ap (λ (t : List model.Record). footprints lim (model.each_record model.region_from t l) ++ pairs (drop (length (flat prints)) ranges₀)) whole)
-        (a.all-lens ∙ ap (λ (t : List model.Record). map name_length t ++ drop (length (map name_length ms)) lens₀) whole)
-        b.all-names
+        (a.all_lens ∙ ap (λ (t : List model.Record). map name_length t ++ drop (length (map name_length ms)) lens₀) whole)
+        b.all_names
         ∙ ap (λ (t : List model.Record). map (model.usable lim) (model.each_record model.region_from t l)) (sym whole)
 
     front : (f : model.Record → ℕ) (s₀ s : List ℕ) → s ≡ written (map f ms) s₀ → (n ≤ length s) × (take n s ≡ map f ms)
     front f s₀ s e =
         let m = length-map ms f in
-        let q = records-length rs n in
+        let q = records_length rs n in
         (rw (e, length-append) (omega arith), ap (take n) e ∙ take_at (map f ms) _ n (omega arith))
 
     counted : range_count us ≡ sum (map ranges_of ms)
-    counted = ap sum (front ranges_of counts₀ counts a.all-counts).1
+    counted = ap sum (front ranges_of counts₀ counts a.all_counts).1
 
     enough : Enough us
     enough =
-        let w = bytes-length (take n rs) b.wide in
-        let o = passed-ranges p in
+        let w = bytes_length (take n rs) b.wide in
+        let o = passed_ranges p in
         let q = length_pairs ranges in
         record {
-          few = let f = passed-few p in omega arith;
-          seqs = (front seq_of seqs₀ seqs a.all-seqs).0;
-          counts = (front ranges_of counts₀ counts a.all-counts).0;
-          lens = (front name_length lens₀ lens a.all-lens).0;
-          names = rw (b.all-names, length-append) (omega (arith, b.long));
-          even = even-list ranges (omega arith);
+          few = let f = passed_few p in omega arith;
+          seqs = (front seq_of seqs₀ seqs a.all_seqs).0;
+          counts = (front ranges_of counts₀ counts a.all_counts).0;
+          lens = (front name_length lens₀ lens a.all_lens).0;
+          names = rw (b.all_names, length-append) (omega (arith, b.long));
+          even = even_list ranges (omega arith);
           ranges = omega (arith, counted);
         }
 
     settles : (marks : ℕ) → 64 ≤ marks → settle_fails us un marks k ≡ false
     unfolding sum
     settles marks h =
-        let f = passed-few p in
-        let o = passed-ranges p in
+        let f = passed_few p in
+        let o = passed_ranges p in
         accepts us un marks k
         (record {
           ours = enough;
-          theirs = none-enough seqs counts ranges lens names enough.even;
+          theirs = none_enough seqs counts ranges lens names enough.even;
           names =
-              subst (All (λ (j : ℕ). j ≤ 24)) (sym (front name_length lens₀ lens a.all-lens).1)
-              (all_map (λ (j : ℕ). j ≤ 24) name_length ms (passed-lists p).names);
-          own-names = tt;
+              subst (All (λ (j : ℕ). j ≤ 24)) (sym (front name_length lens₀ lens a.all_lens).1)
+              (all_map (λ (j : ℕ). j ≤ 24) name_length ms (passed_lists p).names);
+          own_names = tt;
           few = omega (arith, counted);
           room = omega arith;
-          space = omega (arith, counted, (passed-lists p).scratch);
+          space = omega (arith, counted, (passed_lists p).scratch);
         })
 
-    pub settled-marked : (m₀ m s₀ s : List ℕ) (r : ℕ) → length m₀ ≡ 64 → length s₀ ≡ k → Settled us un m₀ m s₀ s r
+    pub settled_marked : (m₀ m s₀ s : List ℕ) (r : ℕ) → length m₀ ≡ 64 → length s₀ ≡ k → Settled us un m₀ m s₀ s r
         → any spoils (take n m) ≡ model.marked lim (regions_in rs n l)
     unfolding model.marked
-    settled-marked m₀ m s₀ s r e h t =
+    settled_marked m₀ m s₀ s r e h t =
         let f : settle_fails us un (length m₀) (length s₀) ≡ false = rw h (settles (length m₀) (omega arith)) in
         let v : m ≡ written (marks_of (settling.regions_of us) (settling.regions_of un)) m₀ = t.slots ∙ simp f in
-        let u = none-regions seqs counts ranges lens names in
-        let j = marks-length (settling.regions_of us) (settling.regions_of un) in
-        let q = length-of us in
+        let u = none_regions seqs counts ranges lens names in
+        let j = marks_length (settling.regions_of us) (settling.regions_of un) in
+        let q = length_of us in
         ap (λ (x : List ℕ). any spoils (take n x)) v
         ∙ ap (any spoils) (take_at (marks_of (settling.regions_of us) (settling.regions_of un)) _ n (omega arith))
-        ∙ rw (lent-regions, u)
+        ∙ rw (lent_regions, u)

@@ -27,9 +27,9 @@ name_length r = length r.name
 
 -- Fields of records at the front of three lists.
 pub record FieldsIn (rs : List model.Record) (seqs₀ seqs counts₀ counts lens₀ lens : List ℕ) : Type 0 where
-  pub all-seqs : seqs ≡ written (map seq_of rs) seqs₀
-  pub all-counts : counts ≡ written (map ranges_of rs) counts₀
-  pub all-lens : lens ≡ written (map name_length rs) lens₀
+  pub all_seqs : seqs ≡ written (map seq_of rs) seqs₀
+  pub all_counts : counts ≡ written (map ranges_of rs) counts₀
+  pub all_lens : lens ≡ written (map name_length rs) lens₀
 
 -- The bytes for names, one record behind the other.
 unfoldable pub bytes_of : List Record → List ℕ
@@ -39,7 +39,7 @@ bytes_of (r ∷ rs) = r.name ++ bytes_of rs
 -- Those of n records stand at the front of a list, 24 a record.
 pub record NamesIn (rs : List Record) (n : ℕ) (names₀ names : List ℕ) : Type 0 where
   pub long : length rs ≡ n
-  pub all-names : names ≡ written (bytes_of rs) names₀
+  pub all_names : names ≡ written (bytes_of rs) names₀
   pub wide : All (λ (r : Record). length r.name ≡ 24) rs
 
 -- A record's header lists its committed extents.

@@ -14,11 +14,11 @@ use Rattle.plan_record.specs.declared.Reply.{Reply}
 use Rattle.plan_record.specs.declared.Reply.TheVariants.{Done, At, Refused}
 use Rattle.position.specs.Position.{Room, RoomFor, Rooms, After, Position}
 use Rattle.position.specs.Runs.{Whole, Loan, Loans, Arguments, OpensWith, opening_with, with_plan, Run, Locates}
-use Rattle.model.proofs.Demand.{sound-demand}
-use Rattle.model.proofs.Opening.{opened-sound}
+use Rattle.model.proofs.Demand.{sound_demand}
+use Rattle.model.proofs.Opening.{opened_sound}
 use Rattle.model.proofs.Sound.{Sound}
-use Rattle.model.proofs.Steps.{next-sound, after-sound}
-use Rattle.numbers.proofs.Answers.{same-value, answer-value, accepted-is}
+use Rattle.model.proofs.Steps.{next_sound, after_sound}
+use Rattle.numbers.proofs.Answers.{same_value, answer_value, accepted_is}
 use Rattle.position.proofs.Running.{world_in, Ran, ran}
 use Rattle.model.specs.Demand as model
 use Rattle.plan.proofs.cap.Met as cap-met
@@ -36,20 +36,20 @@ use Rattle.plan_record.proofs.Plan.physical.Met as physical-met
 -- ---- room
 
 told : {w : World} {tests : List ℕ} {n : ℕ} {c : Call} → model.Room w tests n c → Room w tests n (answer_to w c)
-told r = record { full = r.full; only-full = r.only-full; placed = r.placed }
+told r = record { full = r.full; only_full = r.only_full; placed = r.placed }
 
 room_for : (w : World) → Sound w → (c : Call) → RoomFor w c (answer_to w c)
-room_for w s (create id tag name) = told {c = create id tag name} ((sound-demand w s).create-room id tag name)
-room_for w s (grow id) = told {c = grow id} ((sound-demand w s).grow-room id)
+room_for w s (create id tag name) = told {c = create id tag name} ((sound_demand w s).create_room id tag name)
+room_for w s (grow id) = told {c = grow id} ((sound_demand w s).grow_room id)
 room_for w s (publish id len) = tt
 room_for w s (drop id) = tt
 room_for w s (cap tag limit) = tt
 room_for w s (locate id pos n) = tt
 
-rooms-along : (w : World) → Sound w → (cs : List Call) → Rooms w cs (answers_along w cs)
+rooms_along : (w : World) → Sound w → (cs : List Call) → Rooms w cs (answers_along w cs)
 unfolding answers_along
-rooms-along w s [] = tt
-rooms-along w s (c ∷ cs) = (room_for w s c, rooms-along (next w c) (next-sound w s c) cs)
+rooms_along w s [] = tt
+rooms_along w s (c ∷ cs) = (room_for w s c, rooms_along (next w c) (next_sound w s c) cs)
 
 -- ---- after a list of calls
 
@@ -58,10 +58,10 @@ module _ (w₀ : World) (s₀ : Sound w₀) (cs : List Call) (ns : List (Answer 
   w = world_after w₀ cs
 
   sound : Sound w
-  sound = after-sound w₀ s₀ cs
+  sound = after_sound w₀ s₀ cs
 
   demand : model.Demand w
-  demand = sound-demand w sound
+  demand = sound_demand w sound
 
   -- a located position
   found : (l : Loans) (id p : ℕ) (r : Reply) → model.Published w id p → Locates l h id p 1 r → reply_of r ≡ accepted (some (model.byte_at w id p))
@@ -76,51 +76,51 @@ module _ (w₀ : World) (s₀ : Sound w₀) (cs : List Call) (ns : List (Answer 
         answers = g.answers;
         located = found;
         own = λ l m id p jd q r t b d x y e.
-            demand.own id p jd q b d (some_same (same-value _ _ (sym (found l id p r b x) ∙ e ∙ found m jd q t d y)));
+            demand.own id p jd q b d (some_same (same_value _ _ (sym (found l id p r b x) ∙ e ∙ found m jd q t d y)));
         stays = λ l m id p r t ds ms k c kp b x y.
             let u = ran g.valid c in
             let z = demand.stays id p ds b kp in
             let e : world_in k ≡ world_after w ds = u.world ∙ ap (λ (v : World). world_after v ds) g.world in
-            let f = (sound-demand (world_after w ds) (after-sound w sound ds)).located id p z.0 in (
+            let f = (sound_demand (world_after w ds) (after_sound w sound ds)).located id p z.0 in (
               z.0,
               y.answer k.extents u.valid ∙ ap (λ (v : World). answer_to v (locate id p 1)) e ∙ f
                   ∙ ap (λ (n : ℕ). accepted (some n)) z.1 ∙ sym (found l id p r b x),
             );
         forgets = demand.forgets;
-        held-is = λ r x. x.told h.extents h.starts h.files g.valid ∙ ap held g.world;
-        free-is = λ r x. x.told h.extents h.starts h.files g.valid ∙ ap free g.world;
+        held_is = λ r x. x.told h.extents h.starts h.files g.valid ∙ ap held g.world;
+        free_is = λ r x. x.told h.extents h.starts h.files g.valid ∙ ap free g.world;
         figures = λ r t x y.
             ap (λ (n : ℕ). n + t) (x.told h.extents h.starts h.files g.valid ∙ ap held g.world)
             ∙ ap (λ (n : ℕ). held w + n) (y.told h.extents h.starts h.files g.valid ∙ ap free g.world) ∙ demand.figures;
-        physical-is = λ tag r x. x.told h.extents h.starts h.files g.valid ∙ ap (λ (u : World). physical u tag) g.world;
-        logical-is = λ tag r x. x.told h.extents h.starts h.files g.valid ∙ ap (λ (u : World). logical u tag) g.world;
-        rooms = subst (Rooms w₀ cs) (sym g.answers) (rooms-along w₀ s₀ cs);
+        physical_is = λ tag r x. x.told h.extents h.starts h.files g.valid ∙ ap (λ (u : World). physical u tag) g.world;
+        logical_is = λ tag r x. x.told h.extents h.starts h.files g.valid ∙ ap (λ (u : World). logical u tag) g.world;
+        rooms = subst (Rooms w₀ cs) (sym g.answers) (rooms_along w₀ s₀ cs);
       }
 
 -- ---- open
 
 -- a reply that reads as an acceptance with no byte is Done
-done-read : (r : Reply) → reply_of r ≡ accepted none → r ≡ Done
-done-read Done e = refl
-done-read (At a) e = let z : ◌≡◌ {A = ℕ} 0 1 = cc in absurd (omega arith)
-done-read (Refused n) e = let z : ◌≡◌ {A = ℕ} 0 1 = cc in absurd (omega arith)
+done_read : (r : Reply) → reply_of r ≡ accepted none → r ≡ Done
+done_read Done e = refl
+done_read (At a) e = let z : ◌≡◌ {A = ℕ} 0 1 = cc in absurd (omega arith)
+done_read (Refused n) e = let z : ◌≡◌ {A = ℕ} 0 1 = cc in absurd (omega arith)
 
 pub done_at : (r : Reply) {n : ℕ} → reply_of r ≡ answer n none → n ≡ 0 → r ≡ Done
-done_at r e z = done-read r (e ∙ answer-value _ none z)
+done_at r e z = done_read r (e ∙ answer_value _ none z)
 
 module _ (l : Loans) (a b : Loan) (o : Arguments) (s t : List ℕ) (h k : Whole) (r : Outcome) (x : OpensWith l a b o s h r t k) where
   done : open_refusal (opening_with o s h) ≡ 0 → r.reply ≡ Done
   done z = done_at r.reply x.answer z
 
   only : r.reply ≡ Done → open_refusal (opening_with o s h) ≡ 0
-  only e = (accepted-is _ none none (sym x.answer ∙ ap reply_of e)).0
+  only e = (accepted_is _ none none (sym x.answer ∙ ap reply_of e)).0
 
   claims : open_refusal (opening_with o s h) ≡ 0 → (cs : List Call) (ns : List (Answer (Option ℕ))) (j : Whole) → Run (with_plan k r.plan) cs ns j
       → After (opened (opening_with o s h)) cs ns j (world_after (opened (opening_with o s h)) cs)
   claims z cs ns j c =
       let d = done z in
       let w = opened (opening_with o s h) in
-      after w (opened-sound (opening_with o s h) z) cs ns j (subst (λ (u : World). Ran u cs ns j) (x.world d) (ran (x.valid d) c))
+      after w (opened_sound (opening_with o s h) z) cs ns j (subst (λ (u : World). Ran u cs ns j) (x.world d) (ran (x.valid d) c))
 
 pub position : Position
 position =
@@ -132,10 +132,10 @@ position =
       drops = drop-met.met;
       caps = cap-met.met;
       locates = locate-met.met;
-      tells-held = held-met.met;
-      tells-free = free-met.met;
-      tells-physical = physical-met.met;
-      tells-logical = logical-met.met;
+      tells_held = held-met.met;
+      tells_free = free-met.met;
+      tells_physical = physical-met.met;
+      tells_logical = logical-met.met;
       accepts = done;
       only_then = only;
       claim = claims;

@@ -11,7 +11,7 @@ use Rattle.plan_record.specs.Plan.{Valid, world_of, reply_of}
 use Rattle.plan_record.specs.declared.Outcome.{Outcome}
 use Rattle.plan_record.specs.declared.Reply.{Reply}
 use Rattle.position.specs.Runs.{Whole, with_plan, Run, ends, creates, grows, publishes, drops, caps, locates}
-use Rattle.model.proofs.Steps.{next-cases}
+use Rattle.model.proofs.Steps.{next_cases}
 
 abbrev pub ValidIn : Whole → Type 0
 ValidIn h = Valid h.plan h.extents h.starts h.files
@@ -48,7 +48,7 @@ pub stood : (h : Whole) {k : Whole} {id pos n : ℕ} {cs : List Call} {ns : List
 unfolding world_after answers_along accept
 stood h {k} {id} {pos} {n} a v g =
     let w = world_in h in
-    let e : next w (locate id pos n) ≡ w = next-cases w (locate id pos n) (λ (u : World). u ≡ w) (λ z. refl) (λ d. refl) in
+    let e : next w (locate id pos n) ≡ w = next_cases w (locate id pos n) (λ (u : World). u ≡ w) (λ z. refl) (λ d. refl) in
     record { valid = g.valid; world = g.world ∙ rw e; answers = rw (a.answer h.extents v, g.answers, e) }
 
 pub ran : {h k : Whole} {cs : List Call} {ns : List (Answer (Option ℕ))} → ValidIn h → Run h cs ns k → Ran (world_in h) cs ns k

@@ -37,7 +37,7 @@ pub record Room (w : World) (tests : List ℕ) (n : ℕ) (a : Answer (Option ℕ
   -- it passes every earlier check, and no span is free: refused for room
   pub full : first tests ≡ 0 → ((p : ℕ) → FreeSpan w n p → ⊥) → a ≡ refused 22
   -- refused for room: no span is free
-  pub only-full : a ≡ refused 22 → (p : ℕ) → FreeSpan w n p → ⊥
+  pub only_full : a ≡ refused 22 → (p : ℕ) → FreeSpan w n p → ⊥
   -- it passes every earlier check, and some span is free: it is placed at the lowest
   pub placed : first tests ≡ 0 → (p : ℕ) → FreeSpan w n p → (b : ℕ) × LeastFree w n b × (a ≡ accepted (some b))
 
@@ -73,12 +73,12 @@ pub record After (w₀ : World) (cs : List Call) (ns : List (Answer (Option ℕ)
   -- a dropped number is unknown, so that one created again is another region
   pub forgets : (id : ℕ) → known (next w (drop id)) id ≡ false
   -- 4. "held + free = length - table end": the plan's held is the sum of footprints, its free that of the gaps
-  pub held-is : (r : ℕ) → HeldTold h r → r ≡ held w
-  pub free-is : (r : ℕ) → FreeTold h r → r ≡ free w
+  pub held_is : (r : ℕ) → HeldTold h r → r ≡ held w
+  pub free_is : (r : ℕ) → FreeTold h r → r ≡ free w
   pub figures : (r s : ℕ) → HeldTold h r → FreeTold h s → r + s ≡ w.limits.file_len - w.limits.table_end
   -- 5. "tag totals", of every tag, one without a row included: "physical totals count footprints, logical ones published lengths"
-  pub physical-is : (tag r : ℕ) → PhysicalTold h tag r → r ≡ physical w tag
-  pub logical-is : (tag r : ℕ) → LogicalTold h tag r → r ≡ logical w tag
+  pub physical_is : (tag r : ℕ) → PhysicalTold h tag r → r ≡ physical w tag
+  pub logical_is : (tag r : ℕ) → LogicalTold h tag r → r ≡ logical w tag
   -- 6. "a create or grow that passes every earlier check is refused for room exactly when no span is free", just before it
   pub rooms : Rooms w₀ cs ns
 
@@ -93,10 +93,10 @@ pub record Position : Type 2 where
   pub drops : {M : Type 1} → drop_code.statement M
   pub caps : {M : Type 1} → cap-code.statement M
   pub locates : {M : Type 1} → locate-code.statement M
-  pub tells-held : {M : Type 1} → held-code.statement M
-  pub tells-free : {M : Type 1} → free-code.statement M
-  pub tells-physical : {M : Type 1} → physical-code.statement M
-  pub tells-logical : {M : Type 1} → logical-code.statement M
+  pub tells_held : {M : Type 1} → held-code.statement M
+  pub tells_free : {M : Type 1} → free-code.statement M
+  pub tells_physical : {M : Type 1} → physical-code.statement M
+  pub tells_logical : {M : Type 1} → logical-code.statement M
   -- open accepts where the model accepts its arguments, and only there
   pub accepts : (l : Loans) (a b : Loan) (o : Arguments) (s t : List ℕ) (h k : Whole) (r : Outcome) → OpensWith l a b o s h r t k
       → open_refusal (opening_with o s h) ≡ 0 → r.reply ≡ Done

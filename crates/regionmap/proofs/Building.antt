@@ -15,20 +15,20 @@ use Rattle.numbers.specs.Sums.{top, sum}
 use Rattle.regionmap.specs.Inner.{Laid}
 use Rattle.regionmap.specs.Map.{passes_top, with_first, file_end, longer, extended_runs}
 use Rattle.runs.proofs.Joining.{fills, same_length}
-use Rattle.numbers.proofs.Lists.{all-at}
-use Rattle.numbers.proofs.Pairs.{length_pairs, pair-in, pair-at}
-use Rattle.numbers.proofs.Sums.{total-one, total-take}
-use Rattle.regionmap.proofs.Bytes.{longer-length}
-use Rattle.regionmap.proofs.Extents.{each-ends, each-whole, runs_skip, runs_none, none-total, runs-first, runs-next}
+use Rattle.numbers.proofs.Lists.{all_at}
+use Rattle.numbers.proofs.Pairs.{length_pairs, pair_in, pair_at}
+use Rattle.numbers.proofs.Sums.{total_one, total_take}
+use Rattle.regionmap.proofs.Bytes.{longer_length}
+use Rattle.regionmap.proofs.Extents.{each_ends, each_whole, runs_skip, runs_none, none_total, runs_first, runs_next}
 
 -- ---- the last run longer, and one run more
 
 -- what does not look at the length stays
-longer-same : (p : Run → ℕ) → ((r : Run) (n : ℕ) → p (run r.start r.file n) ≡ p r) → (n : ℕ) (rs : List Run) → map p (longer n rs) ≡ map p rs
+longer_same : (p : Run → ℕ) → ((r : Run) (n : ℕ) → p (run r.start r.file n) ≡ p r) → (n : ℕ) (rs : List Run) → map p (longer n rs) ≡ map p rs
 unfolding longer
-longer-same p e n [] = refl
-longer-same p e n (r ∷ []) = ap (λ (q : ℕ). q ∷ []) (e r (r.len + n))
-longer-same p e n (r ∷ q ∷ qs) = ap (λ (l : List ℕ). p r ∷ l) (longer-same p e n (q ∷ qs))
+longer_same p e n [] = refl
+longer_same p e n (r ∷ []) = ap (λ (q : ℕ). q ∷ []) (e r (r.len + n))
+longer_same p e n (r ∷ q ∷ qs) = ap (λ (l : List ℕ). p r ∷ l) (longer_same p e n (q ∷ qs))
 
 -- the runs with the last one longer, in two parts
 record Longer (n : ℕ) (r : Run) (rs : List Run) : Type 0 where
@@ -40,44 +40,44 @@ record Longer (n : ℕ) (r : Run) (rs : List Run) : Type 0 where
   files : map (λ (q : Run). q.file) rest ≡ map (λ (q : Run). q.file) rs
   count : length rest ≡ length rs
 
-longer-parts : (n : ℕ) (r : Run) (rs : List Run) → Longer n r rs
+longer_parts : (n : ℕ) (r : Run) (rs : List Run) → Longer n r rs
 unfolding longer
-longer-parts n r [] = record { head = run r.start r.file (r.len + n); rest = []; is = refl; from = refl; starts = refl; files = refl; count = refl }
-longer-parts n r (q ∷ qs) =
+longer_parts n r [] = record { head = run r.start r.file (r.len + n); rest = []; is = refl; from = refl; starts = refl; files = refl; count = refl }
+longer_parts n r (q ∷ qs) =
     record {
       head = r;
       rest = longer n (q ∷ qs);
       is = refl;
       from = refl;
-      starts = longer-same (λ (s : Run). s.start) (λ s k. refl) n (q ∷ qs);
-      files = longer-same (λ (s : Run). s.file) (λ s k. refl) n (q ∷ qs);
-      count = longer-length n (q ∷ qs);
+      starts = longer_same (λ (s : Run). s.start) (λ s k. refl) n (q ∷ qs);
+      files = longer_same (λ (s : Run). s.file) (λ s k. refl) n (q ∷ qs);
+      count = longer_length n (q ∷ qs);
     }
 
-longer-end : (n : ℕ) (r : Run) (rs : List Run) → file_end (longer n (r ∷ rs)) ≡ file_end (r ∷ rs) + n
+longer_end : (n : ℕ) (r : Run) (rs : List Run) → file_end (longer n (r ∷ rs)) ≡ file_end (r ∷ rs) + n
 unfolding longer file_end
-longer-end n r [] = omega arith
-longer-end n r (q ∷ []) = omega arith
-longer-end n r (q ∷ s ∷ qs) = longer-end n q (s ∷ qs)
+longer_end n r [] = omega arith
+longer_end n r (q ∷ []) = omega arith
+longer_end n r (q ∷ s ∷ qs) = longer_end n q (s ∷ qs)
 
-more-end : (rs : List Run) (r : Run) → file_end (rs ++ (r ∷ [])) ≡ r.file + r.len
+more_end : (rs : List Run) (r : Run) → file_end (rs ++ (r ∷ [])) ≡ r.file + r.len
 unfolding file_end
-more-end [] r = refl
-more-end (q ∷ []) r = refl
-more-end (q ∷ s ∷ qs) r = more-end (s ∷ qs) r
+more_end [] r = refl
+more_end (q ∷ []) r = refl
+more_end (q ∷ s ∷ qs) r = more_end (s ∷ qs) r
 
 -- an empty first run stands alone
-with-some : (rs : List Run) → (rs ≡ [] → ⊥) → with_first rs ≡ rs
-with-some [] d = absurd (d refl)
-with-some (r ∷ rs) d = refl
+with_some : (rs : List Run) → (rs ≡ [] → ⊥) → with_first rs ≡ rs
+with_some [] d = absurd (d refl)
+with_some (r ∷ rs) d = refl
 
 with_rest : (rs : List Run) (r : Run) (qs : List Run) → with_first rs ≡ r ∷ qs → qs ≡ drop 1 rs
 with_rest [] r qs e = sym (ap (drop 1) e)
 with_rest (q ∷ rs) r qs e = sym (ap (drop 1) e)
 
-with-length : (rs : List Run) (r : Run) (qs : List Run) → with_first rs ≡ r ∷ qs → length qs ≡ length rs - 1
-with-length [] r qs e = let l = ap length e in omega arith
-with-length (q ∷ rs) r qs e = let l = ap length e in omega arith
+with_length : (rs : List Run) (r : Run) (qs : List Run) → with_first rs ≡ r ∷ qs → length qs ≡ length rs - 1
+with_length [] r qs e = let l = ap length e in omega arith
+with_length (q ∷ rs) r qs e = let l = ap length e in omega arith
 
 -- ---- the loop
 
@@ -111,8 +111,8 @@ module _ (xs ss₀ fs₀ : List ℕ) where
         all = sym l;
         below = omega arith;
         rooms = (omega (arith, p.1), omega (arith, p.2));
-        inside = each-ends (pairs xs) p.0;
-        whole = each-whole (pairs xs) p.0;
+        inside = each_ends (pairs xs) p.0;
+        whole = each_whole (pairs xs) p.0;
         sums = refl;
         head = blank_run;
         rest = [];
@@ -126,8 +126,8 @@ module _ (xs ss₀ fs₀ : List ℕ) where
       }
 
 module _ {xs ss₀ ss fs₀ fs : List ℕ} {n from count at end i : ℕ} (g : Building xs ss₀ ss fs₀ fs n from count at end i) where
-  pub build-lengths : (length ss ≡ length ss₀) × (length fs ≡ length fs₀)
-  build-lengths =
+  pub build_lengths : (length ss ≡ length ss₀) × (length fs ≡ length fs₀)
+  build_lengths =
       let r = g.rooms in (
         same_length (λ (q : Run). q.start) g.rest ss₀ ss count g.later g.starts (omega (arith, r.0, g.few, g.below)),
         same_length (λ (q : Run). q.file) g.rest fs₀ fs count g.later g.files (omega (arith, r.1, g.few, g.below)),
@@ -143,36 +143,36 @@ module _ {xs ss₀ ss fs₀ fs : List ℕ} {n from count at end i : ℕ} (g : Bu
     inner : i < length (pairs xs)
     inner = omega (arith, g.all)
 
-    pub build-in : 2 * i + 1 < length xs
-    build-in = pair-in xs i inner
+    pub build_in : 2 * i + 1 < length xs
+    build_in = pair_in xs i inner
 
-    x-at : get_or (pairs xs) i blank ≡ x
-    x-at = pair-at xs i build-in
+    x_at : get_or (pairs xs) i blank ≡ x
+    x_at = pair_at xs i build_in
 
     next : take (i + 1) (pairs xs) ≡ ys ++ (x ∷ [])
-    next = let o : i + 1 ≡ suc i = omega arith in rw o (take-suc (pairs xs) i blank inner ∙ rw x-at)
+    next = let o : i + 1 ≡ suc i = omega arith in rw o (take-suc (pairs xs) i blank inner ∙ rw x_at)
 
     -- no sum passes
-    pub build-byte : x.offset + x.len ≤ top
-    build-byte = let a = all-at (λ (y : Range). y.offset + y.len ≤ top) (pairs xs) i blank g.inside inner in subst (λ (y : Range). y.offset + y.len ≤ top) x-at a
+    pub build_byte : x.offset + x.len ≤ top
+    build_byte = let a = all_at (λ (y : Range). y.offset + y.len ≤ top) (pairs xs) i blank g.inside inner in subst (λ (y : Range). y.offset + y.len ≤ top) x_at a
 
-    pub build-sum : at + x.len ≤ top
-    build-sum =
-        let t = total-take (i + 1) (pairs xs) in
-        let e = ap total next ∙ total-one ys x in
+    pub build_sum : at + x.len ≤ top
+    build_sum =
+        let t = total_take (i + 1) (pairs xs) in
+        let e = ap total next ∙ total_one ys x in
         omega (arith, g.whole, g.sums, t, e)
 
-    pub build-room : (count < length ss) × (count < length fs)
-    build-room =
+    pub build_room : (count < length ss) × (count < length fs)
+    build_room =
         let r = g.rooms in
-        let e = build-lengths in
+        let e = build_lengths in
         (omega (arith, r.0, e.0, g.few), omega (arith, r.1, e.1, g.few))
 
     sums_on : at + x.len ≡ total (take (i + 1) (pairs xs))
-    sums_on = let e = ap total next ∙ total-one ys x in omega (arith, g.sums, e)
+    sums_on = let e = ap total next ∙ total_one ys x in omega (arith, g.sums, e)
 
-    pub build-skips : x.len ≡ 0 → Building xs ss₀ ss fs₀ fs n from count at end (i + 1)
-    build-skips z =
+    pub build_skips : x.len ≡ 0 → Building xs ss₀ ss fs₀ fs n from count at end (i + 1)
+    build_skips z =
         record {
           all = g.all;
           below = omega arith;
@@ -195,9 +195,9 @@ module _ {xs ss₀ ss fs₀ fs : List ℕ} {n from count at end i : ℕ} (g : Bu
       long : 0 < x.len
       long = omega (arith, d)
 
-      pub build-first : at ≡ 0 → Building xs ss₀ ss fs₀ fs n x.offset count x.len (x.offset + x.len) (i + 1)
+      pub build_first : at ≡ 0 → Building xs ss₀ ss fs₀ fs n x.offset count x.len (x.offset + x.len) (i + 1)
       unfolding file_end
-      build-first z =
+      build_first z =
           let t : total ys ≡ 0 = sym g.sums ∙ z in
           let e : g.rest ≡ [] = with_rest (runs_of ys) g.head g.rest g.runs ∙ ap (drop 1) (runs_none ys t) in
           record {
@@ -209,7 +209,7 @@ module _ {xs ss₀ ss fs₀ fs : List ℕ} {n from count at end i : ℕ} (g : Bu
             sums = let s = sums_on in omega (arith, s, z);
             head = run 0 x.offset x.len;
             rest = [];
-            runs = ap with_first (ap runs_of next ∙ runs-first ys x long t);
+            runs = ap with_first (ap runs_of next ∙ runs_first ys x long t);
             begins = refl;
             ends = refl;
             later = sym (ap length e) ∙ g.later;
@@ -220,21 +220,21 @@ module _ {xs ss₀ ss fs₀ fs : List ℕ} {n from count at end i : ℕ} (g : Bu
 
       module _ (z : at ≡ 0 → ⊥) where
         some : runs_of ys ≡ [] → ⊥
-        some e = z (g.sums ∙ none-total ys e)
+        some e = z (g.sums ∙ none_total ys e)
 
-        runs-are : runs_of ys ≡ g.head ∷ g.rest
-        runs-are = sym (with-some (runs_of ys) some) ∙ g.runs
+        runs_are : runs_of ys ≡ g.head ∷ g.rest
+        runs_are = sym (with_some (runs_of ys) some) ∙ g.runs
 
         extends : runs_of (take (i + 1) (pairs xs)) ≡ extended_runs (g.head ∷ g.rest) at x.offset x.len
         extends =
             ap runs_of next
-            ∙ runs-next ys x long (omega (arith, g.sums, z)) (omega (arith, g.sums, build-sum)) (omega (arith, build-byte))
-            ∙ rw (runs-are, ← g.sums)
+            ∙ runs_next ys x long (omega (arith, g.sums, z)) (omega (arith, g.sums, build_sum)) (omega (arith, build_byte))
+            ∙ rw (runs_are, ← g.sums)
 
-        pub build-joins : x.offset ≡ end → Building xs ss₀ ss fs₀ fs n from count (at + x.len) (end + x.len) (i + 1)
+        pub build_joins : x.offset ≡ end → Building xs ss₀ ss fs₀ fs n from count (at + x.len) (end + x.len) (i + 1)
         unfolding extended_runs
-        build-joins j =
-            let w = longer-parts x.len g.head g.rest in
+        build_joins j =
+            let w = longer_parts x.len g.head g.rest in
             let e : runs_of (take (i + 1) (pairs xs)) ≡ w.head ∷ w.rest = extends ∙ simp (eq-eqb _ _ (g.ends ∙ sym j)) w.is in
             record {
               all = g.all;
@@ -247,16 +247,16 @@ module _ {xs ss₀ ss fs₀ fs : List ℕ} {n from count at end i : ℕ} (g : Bu
               rest = w.rest;
               runs = ap with_first e;
               begins = w.from ∙ g.begins;
-              ends = ap file_end (sym w.is) ∙ longer-end x.len g.head g.rest ∙ rw g.ends;
+              ends = ap file_end (sym w.is) ∙ longer_end x.len g.head g.rest ∙ rw g.ends;
               later = w.count ∙ g.later;
               few = omega (arith, g.few);
               starts = g.starts ∙ ap (λ (q : List ℕ). written q ss₀) (sym w.starts);
               files = g.files ∙ ap (λ (q : List ℕ). written q fs₀) (sym w.files);
             }
 
-        pub build-adds : (x.offset ≡ end → ⊥) → Building xs ss₀ (set ss count at) fs₀ (set fs count x.offset) n from (count + 1) (at + x.len) (x.offset + x.len) (i + 1)
+        pub build_adds : (x.offset ≡ end → ⊥) → Building xs ss₀ (set ss count at) fs₀ (set fs count x.offset) n from (count + 1) (at + x.len) (x.offset + x.len) (i + 1)
         unfolding extended_runs
-        build-adds j =
+        build_adds j =
             let r = run at x.offset x.len in
             let m = g.rooms in
             let ne : file_end (g.head ∷ g.rest) ≡ x.offset → ⊥ = λ q. j (sym q ∙ g.ends) in
@@ -272,7 +272,7 @@ module _ {xs ss₀ ss fs₀ fs : List ℕ} {n from count at end i : ℕ} (g : Bu
               rest = g.rest ++ (r ∷ []);
               runs = ap with_first e;
               begins = g.begins;
-              ends = more-end (g.head ∷ g.rest) r;
+              ends = more_end (g.head ∷ g.rest) r;
               later = length-append g.rest (r ∷ []) ∙ omega (arith, g.later);
               few = omega (arith, g.few);
               starts = fills (λ (q : Run). q.start) g.rest ss₀ ss count g.later g.starts r (omega (arith, m.0, g.few));
@@ -286,7 +286,7 @@ module _ {xs ss₀ ss fs₀ fs : List ℕ} {n from count at end i : ℕ} (g : Bu
       let w = with_rest (runs_of (pairs xs)) g.head g.rest e in
       record {
         from = sym (rw e g.begins);
-        later = sym g.later ∙ with-length (runs_of (pairs xs)) g.head g.rest e;
+        later = sym g.later ∙ with_length (runs_of (pairs xs)) g.head g.rest e;
         starts = g.starts ∙ ap (λ (q : List Run). written (map (λ (r : Run). r.start) q) ss₀) w;
         files = g.files ∙ ap (λ (q : List Run). written (map (λ (r : Run). r.file) q) fs₀) w;
       }

@@ -14,11 +14,11 @@ use Rattle.numbers.specs.Range.{range}
 use Rattle.numbers.specs.Refusals.{accepted}
 use Rattle.regionmap.specs.Map.{runs_to, placement_of, ranges_of, runs_fail, Written}
 use Rattle.regionmap.specs.declared.RegionMap.{RegionMap}
-use Rattle.numbers.proofs.Answers.{one_passes, one-fails}
-use Rattle.numbers.proofs.Lists.{written-length}
-use Rattle.numbers.proofs.Pairs.{pair-in, pair-written, length-flat}
+use Rattle.numbers.proofs.Answers.{one_passes, one_fails}
+use Rattle.numbers.proofs.Lists.{written_length}
+use Rattle.numbers.proofs.Pairs.{pair_in, pair_written, length_flat}
 use Rattle.regionmap.proofs.Lookup.{Enough}
-use Rattle.regionmap.proofs.Means.{runs-count}
+use Rattle.regionmap.proofs.Means.{runs_count}
 
 -- i runs are written; the next one starts at `start`, at the byte `file`
 pub record Listing (m : RegionMap) (ss fs out₀ out : List ℕ) (start file i : ℕ) : Type 0 where
@@ -30,9 +30,9 @@ pub record Listing (m : RegionMap) (ss fs out₀ out : List ℕ) (start file i :
   pub rest : (placement_of m ss fs).runs ≡ done ++ runs_to m.capacity start file (drop i (take m.count ss)) (drop i (take m.count fs))
   pub slots : out ≡ written (flat (ranges_of done)) out₀
 
-pub list-begins : (m : RegionMap) (ss fs out : List ℕ) → (m.count ≤ length ss) × (m.count ≤ length fs) × (m.count < length (pairs out)) → Listing m ss fs out out 0 m.first 0
+pub list_begins : (m : RegionMap) (ss fs out : List ℕ) → (m.count ≤ length ss) × (m.count ≤ length fs) × (m.count < length (pairs out)) → Listing m ss fs out out 0 m.first 0
 unfolding flat
-list-begins m ss fs out p =
+list_begins m ss fs out p =
     record { enough = (p.0, p.1); room = p.2; below = omega arith; done = []; count = refl; rest = refl; slots = refl }
 
 -- the number at i of the first n
@@ -44,22 +44,22 @@ next_of n i l h e =
 module _ {m : RegionMap} {ss fs out₀ out : List ℕ} {start file i : ℕ} (g : Listing m ss fs out₀ out start file i) where
   -- two slots for each run
   room_at : 2 * i + 1 < length out₀
-  room_at = pair-in out₀ i (omega (arith, g.room, g.below))
+  room_at = pair_in out₀ i (omega (arith, g.room, g.below))
 
   many : length (flat (ranges_of g.done)) ≡ 2 * i
-  many = length-flat (ranges_of g.done) ∙ rw (length-map g.done (λ (r : Run). range r.file r.len), g.count)
+  many = length_flat (ranges_of g.done) ∙ rw (length-map g.done (λ (r : Run). range r.file r.len), g.count)
 
   pub list_length : length out ≡ length out₀
-  list_length = rw g.slots (written-length (flat (ranges_of g.done)) out₀ (rw many (let h = room_at in omega arith)))
+  list_length = rw g.slots (written_length (flat (ranges_of g.done)) out₀ (rw many (let h = room_at in omega arith)))
 
-  pub list-room : 2 * i + 1 < length out
-  list-room = rw list_length room_at
+  pub list_room : 2 * i + 1 < length out
+  list_room = rw list_length room_at
 
   -- the run that is written next
   writes : (len : ℕ) → set (set out (2 * i) file) (2 * i + 1) len ≡ written (flat (ranges_of (g.done ++ (run start file len ∷ [])))) out₀
   writes len =
       rw (g.slots, map-append (λ (r : Run). range r.file r.len) g.done (run start file len ∷ []))
-      (pair-written (ranges_of g.done) out₀ i file len (length-map g.done (λ (r : Run). range r.file r.len) ∙ g.count) room_at)
+      (pair_written (ranges_of g.done) out₀ i file len (length-map g.done (λ (r : Run). range r.file r.len) ∙ g.count) room_at)
 
   pub list_on : i < m.count → Listing m ss fs out₀ (set (set out (2 * i) file) (2 * i + 1) (get_or ss i 0 - start)) (get_or ss i 0) (get_or fs i 0) (i + 1)
   unfolding runs_to
@@ -80,18 +80,18 @@ module _ {m : RegionMap} {ss fs out₀ out : List ℕ} {start file i : ℕ} (g :
       }
 
   module _ (h : m.count ≤ i) where
-    pub list-ends : set (set out (2 * i) file) (2 * i + 1) (m.capacity - start) ≡ written (flat (ranges_of (placement_of m ss fs).runs)) out₀
+    pub list_ends : set (set out (2 * i) file) (2 * i + 1) (m.capacity - start) ≡ written (flat (ranges_of (placement_of m ss fs).runs)) out₀
     unfolding runs_to
-    list-ends =
+    list_ends =
         let n = drop_of_length-le (take m.count ss) {i = i} (rw (length-take-le m.count ss g.enough.0) h) in
         let e : (placement_of m ss fs).runs ≡ g.done ++ (run start file (m.capacity - start) ∷ []) = g.rest ∙ rw n in
         writes (m.capacity - start) ∙ ap (λ (l : List Run). written (flat (ranges_of l)) out₀) (sym e)
 
 -- what `runs` answers
 module _ (m : RegionMap) (ss fs out₀ : List ℕ) where
-  pub list-refused : runs_fail m ss fs out₀ ≡ true → Written m ss fs out₀ out₀ (count_of (Refused 1))
-  list-refused e = record { answer = sym (one-fails 1 _ _ (omega arith) e); slots = simp e }
+  pub list_refused : runs_fail m ss fs out₀ ≡ true → Written m ss fs out₀ out₀ (count_of (Refused 1))
+  list_refused e = record { answer = sym (one_fails 1 _ _ (omega arith) e); slots = simp e }
 
   pub list_written : runs_fail m ss fs out₀ ≡ false → Enough m ss fs → (out : List ℕ) → out ≡ written (flat (ranges_of (placement_of m ss fs).runs)) out₀ → Written m ss fs out₀ out (count_of (Runs (m.count + 1)))
   list_written f e out w =
-      record { answer = ap accepted (sym (runs-count m ss fs e.starts e.files)) ∙ sym (one_passes 1 _ _ f); slots = simp f w }
+      record { answer = ap accepted (sym (runs_count m ss fs e.starts e.files)) ∙ sym (one_passes 1 _ _ f); slots = simp f w }

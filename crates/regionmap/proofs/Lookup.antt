@@ -15,11 +15,11 @@ use Rattle.numbers.specs.Sums.{top, stop}
 use Rattle.regionmap.specs.Inner.{RunEnd}
 use Rattle.regionmap.specs.Map.{Placement, placement_of, Valid, too_few, run_of, byte_at, locate_refusal, locate_of}
 use Rattle.regionmap.specs.declared.RegionMap.{RegionMap}
-use Rattle.numbers.proofs.Cases.{or-false, by-lt}
-use Rattle.numbers.proofs.Lists.{all-at}
+use Rattle.numbers.proofs.Cases.{or-false, by_lt}
+use Rattle.numbers.proofs.Lists.{all_at}
 use Rattle.regionmap.proofs.Bytes.{run_at}
-use Rattle.regionmap.proofs.Means.{same_count, runs-count, means-at}
-use Rattle.regionmap.proofs.Order.{at, laid-rising, laid_next, laid-last}
+use Rattle.regionmap.proofs.Means.{same_count, runs_count, means_at}
+use Rattle.regionmap.proofs.Order.{at, laid_rising, laid_next, laid_last}
 use mathlib.Core.Bool as Bool
 
 -- the lists are long enough for the runs
@@ -30,9 +30,9 @@ pub record Enough (m : RegionMap) (ss fs : List ℕ) : Type 0 where
   pub room : m.count ≤ m.room
   pub wide : (m.room ≤ length ss) × (m.room ≤ length fs)
 
-pub lists-pass : (m : RegionMap) (ss fs : List ℕ) → (ltb (length ss) m.room || ltb (length fs) m.room || ltb m.room m.count) ≡ false → Enough m ss fs
+pub lists_pass : (m : RegionMap) (ss fs : List ℕ) → (ltb (length ss) m.room || ltb (length fs) m.room || ltb m.room m.count) ≡ false → Enough m ss fs
 unfolding too_few
-lists-pass m ss fs e =
+lists_pass m ss fs e =
     let a = or-false _ _ e in
     let b = or-false _ _ a.0 in
     let s : m.room ≤ length ss = ltb-false _ _ b.0 in
@@ -50,11 +50,11 @@ module _ (m : RegionMap) (ss fs : List ℕ) (v : Valid m ss fs) where
   same : length (take m.count ss) ≡ length (take m.count fs)
   same = same_count m ss fs v.starts v.files
 
-  pub runs-length : length (runs m ss fs) ≡ m.count + 1
-  runs-length = runs-count m ss fs v.starts v.files
+  pub runs_length : length (runs m ss fs) ≡ m.count + 1
+  runs_length = runs_count m ss fs v.starts v.files
 
   pub count_room : m.count ≤ m.room
-  count_room = omega (arith, v.sound.counted, runs-length)
+  count_room = omega (arith, v.sound.counted, runs_length)
 
   -- the lists fail only by their places
   pub lists-fail : (ltb (length ss) m.room || ltb (length fs) m.room || ltb m.room m.count) ≡ true → too_few m.room ss fs ≡ true
@@ -63,58 +63,58 @@ module _ (m : RegionMap) (ss fs : List ℕ) (v : Valid m ss fs) where
 
   -- where run k starts, in the data and in the file
   run_is : (k : ℕ) → k ≤ m.count → ((at (runs m ss fs) k).start ≡ get_or (0 ∷ take m.count ss) k 0) × ((at (runs m ss fs) k).file ≡ get_or (m.first ∷ take m.count fs) k 0)
-  run_is k h = means-at m.capacity 0 m.first (take m.count ss) (take m.count fs) k same (omega (arith, ls))
+  run_is k h = means_at m.capacity 0 m.first (take m.count ss) (take m.count fs) k same (omega (arith, ls))
 
   module _ (k : ℕ) (h : k < m.count) where
-    later-start : (at (runs m ss fs) (suc k)).start ≡ get_or ss k 0
-    later-start = (run_is (suc k) h).0 ∙ get_or-take m.count ss k 0 h
+    later_start : (at (runs m ss fs) (suc k)).start ≡ get_or ss k 0
+    later_start = (run_is (suc k) h).0 ∙ get_or-take m.count ss k 0 h
 
-    later-file : (at (runs m ss fs) (suc k)).file ≡ get_or fs k 0
-    later-file = (run_is (suc k) h).1 ∙ get_or-take m.count fs k 0 h
+    later_file : (at (runs m ss fs) (suc k)).file ≡ get_or fs k 0
+    later_file = (run_is (suc k) h).1 ∙ get_or-take m.count fs k 0 h
 
-  first-start : (at (runs m ss fs) 0).start ≡ 0
-  first-start = (run_is 0 (omega arith)).0
+  first_start : (at (runs m ss fs) 0).start ≡ 0
+  first_start = (run_is 0 (omega arith)).0
 
-  first-file : (at (runs m ss fs) 0).file ≡ m.first
-  first-file = (run_is 0 (omega arith)).1
+  first_file : (at (runs m ss fs) 0).file ≡ m.first
+  first_file = (run_is 0 (omega arith)).1
 
   rising : Rising ss m.count
   rising i j l h =
-      let r = laid-rising (runs m ss fs) 0 m.capacity (suc i) (suc j) v.sound.laid (omega arith) (omega (arith, runs-length)) in
-      omega (arith, r, later-start i (omega arith), later-start j h)
+      let r = laid_rising (runs m ss fs) 0 m.capacity (suc i) (suc j) v.sound.laid (omega arith) (omega (arith, runs_length)) in
+      omega (arith, r, later_start i (omega arith), later_start j h)
 
   -- the run that was found
   module _ (p : ℕ) where
-    at-or-below : (k : ℕ) → Found ss m.count p k → (at (runs m ss fs) k).start ≤ p
-    at-or-below zero g = omega (arith, first-start)
-    at-or-below (suc k) g =
+    at_or_below : (k : ℕ) → Found ss m.count p k → (at (runs m ss fs) k).start ≤ p
+    at_or_below zero g = omega (arith, first_start)
+    at_or_below (suc k) g =
         let b : get_or ss (suc k - 1) 0 ≤ p = g.below (omega arith) in
         let d : suc k - 1 ≡ k = omega arith in
-        omega (arith, later-start k (omega (arith, g.inside)), ap (λ (i : ℕ). get_or ss i 0) d, b)
+        omega (arith, later_start k (omega (arith, g.inside)), ap (λ (i : ℕ). get_or ss i 0) d, b)
 
     behind : (k : ℕ) → Found ss m.count p k → (j : ℕ) → k < j → j < length (runs m ss fs) → p < (at (runs m ss fs) j).start
     behind k g zero l h = absurd (omega arith)
     behind k g (suc j) l h =
-        let i : j < m.count = omega (arith, runs-length) in
+        let i : j < m.count = omega (arith, runs_length) in
         let a = g.above rising j (omega arith) i in
-        omega (arith, later-start j i)
+        omega (arith, later_start j i)
 
-    pub found-run : (k : ℕ) → Found ss m.count p k → run_of (runs m ss fs) p ≡ at (runs m ss fs) k
-    found-run k g = run_at (runs m ss fs) p k (omega (arith, g.inside, runs-length)) (at-or-below k g) (behind k g)
+    pub found_run : (k : ℕ) → Found ss m.count p k → run_of (runs m ss fs) p ≡ at (runs m ss fs) k
+    found_run k g = run_at (runs m ss fs) p k (omega (arith, g.inside, runs_length)) (at_or_below k g) (behind k g)
 
-    pub found-end : (k e : ℕ) → Found ss m.count p k → RunEnd ss m.count m.capacity k e → (run_of (runs m ss fs) p).start + (run_of (runs m ss fs) p).len ≡ e
-    found-end k e g r =
-        rw (found-run k g)
-        (by-lt k m.count
-        (λ h. laid_next (runs m ss fs) 0 m.capacity k v.sound.laid (omega (arith, runs-length)) ∙ later-start k h ∙ sym (r.early h))
-        (λ h. laid-last (runs m ss fs) 0 m.capacity k v.sound.laid (omega (arith, runs-length, g.inside)) ∙ sym (r.late h)))
+    pub found_end : (k e : ℕ) → Found ss m.count p k → RunEnd ss m.count m.capacity k e → (run_of (runs m ss fs) p).start + (run_of (runs m ss fs) p).len ≡ e
+    found_end k e g r =
+        rw (found_run k g)
+        (by_lt k m.count
+        (λ h. laid_next (runs m ss fs) 0 m.capacity k v.sound.laid (omega (arith, runs_length)) ∙ later_start k h ∙ sym (r.early h))
+        (λ h. laid_last (runs m ss fs) 0 m.capacity k v.sound.laid (omega (arith, runs_length, g.inside)) ∙ sym (r.late h)))
 
     -- its byte, in the first run and in a later one; it does not pass 2^64 - 1
-    in-file : (k : ℕ) → Found ss m.count p k → p ≤ (run_of (runs m ss fs) p).start + (run_of (runs m ss fs) p).len → byte_at (placement_of m ss fs) p ≤ top
-    in-file k g u =
-        let i = all-at (λ (r : Run). r.file + r.len ≤ top) (runs m ss fs) k blank_run v.sound.inside (omega (arith, g.inside, runs-length)) in
-        let b = at-or-below k g in
-        let f = found-run k g in
+    in_file : (k : ℕ) → Found ss m.count p k → p ≤ (run_of (runs m ss fs) p).start + (run_of (runs m ss fs) p).len → byte_at (placement_of m ss fs) p ≤ top
+    in_file k g u =
+        let i = all_at (λ (r : Run). r.file + r.len ≤ top) (runs m ss fs) k blank_run v.sound.inside (omega (arith, g.inside, runs_length)) in
+        let b = at_or_below k g in
+        let f = found_run k g in
         let s = ap (λ (r : Run). r.start) f in
         let l = ap (λ (r : Run). r.len) f in
         let o = ap (λ (r : Run). r.file) f in
@@ -122,30 +122,30 @@ module _ (m : RegionMap) (ss fs : List ℕ) (v : Valid m ss fs) where
 
     pub found_first : Found ss m.count p 0 → p ≤ (run_of (runs m ss fs) p).start + (run_of (runs m ss fs) p).len → byte_at (placement_of m ss fs) p ≡ stop (m.first + p)
     found_first g u =
-        let f = found-run 0 g in
-        omega (arith, in-file 0 g u, ap (λ (r : Run). r.start) f, ap (λ (r : Run). r.file) f, first-start, first-file)
+        let f = found_run 0 g in
+        omega (arith, in_file 0 g u, ap (λ (r : Run). r.start) f, ap (λ (r : Run). r.file) f, first_start, first_file)
 
-    pub found-later : (k : ℕ) → k < m.count → Found ss m.count p (suc k) → p ≤ (run_of (runs m ss fs) p).start + (run_of (runs m ss fs) p).len → byte_at (placement_of m ss fs) p ≡ stop (get_or fs k 0 + (p - get_or ss k 0))
-    found-later k h g u =
-        let f = found-run (suc k) g in
-        omega (arith, in-file (suc k) g u, ap (λ (r : Run). r.start) f, ap (λ (r : Run). r.file) f, later-start k h, later-file k h)
+    pub found_later : (k : ℕ) → k < m.count → Found ss m.count p (suc k) → p ≤ (run_of (runs m ss fs) p).start + (run_of (runs m ss fs) p).len → byte_at (placement_of m ss fs) p ≡ stop (get_or fs k 0 + (p - get_or ss k 0))
+    found_later k h g u =
+        let f = found_run (suc k) g in
+        omega (arith, in_file (suc k) g u, ap (λ (r : Run). r.start) f, ap (λ (r : Run). r.file) f, later_start k h, later_file k h)
 
 -- the answer, test by test
 module _ (m : Placement) (p n : ℕ) (ss fs : List ℕ) where
-  pub locate-few : too_few m.room ss fs ≡ true → refused 1 ≡ locate_of m p n ss fs
+  pub locate_few : too_few m.room ss fs ≡ true → refused 1 ≡ locate_of m p n ss fs
   unfolding locate_refusal first refuse answer
-  locate-few a = simp a
+  locate_few a = simp a
 
   module _ (a : too_few m.room ss fs ≡ false) where
-    pub locate-past : ltb m.len (p + n) ≡ true → refused 23 ≡ locate_of m p n ss fs
+    pub locate_past : ltb m.len (p + n) ≡ true → refused 23 ≡ locate_of m p n ss fs
     unfolding locate_refusal first refuse answer
-    locate-past b = simp (a, b)
+    locate_past b = simp (a, b)
 
     module _ (b : ltb m.len (p + n) ≡ false) where
-      pub locate-across : ltb ((run_of m.runs p).start + (run_of m.runs p).len) (p + n) ≡ true → refused 24 ≡ locate_of m p n ss fs
+      pub locate_across : ltb ((run_of m.runs p).start + (run_of m.runs p).len) (p + n) ≡ true → refused 24 ≡ locate_of m p n ss fs
       unfolding locate_refusal first refuse answer
-      locate-across c = simp (a, b, c)
+      locate_across c = simp (a, b, c)
 
-      pub locate-at : ltb ((run_of m.runs p).start + (run_of m.runs p).len) (p + n) ≡ false → (q : ℕ) → byte_at m p ≡ q → accepted q ≡ locate_of m p n ss fs
+      pub locate_at : ltb ((run_of m.runs p).start + (run_of m.runs p).len) (p + n) ≡ false → (q : ℕ) → byte_at m p ≡ q → accepted q ≡ locate_of m p n ss fs
       unfolding locate_refusal first refuse answer
-      locate-at c q e = simp (a, b, c, e)
+      locate_at c q e = simp (a, b, c, e)

@@ -8,21 +8,21 @@ use Rattle.numbers.specs.Refusals.{refuse, accepted, answer}
 use Rattle.regionmap.specs.Map.{Placement, placement_of, limit, outcome_of, room_refusal, with_room, Roomed, published, Published}
 use Rattle.regionmap.specs.declared.Mapped.TheVariants.{Map, Refused}
 use Rattle.regionmap.specs.declared.RegionMap.{RegionMap}
-use Rattle.numbers.proofs.Answers.{answer-value, answer-number}
+use Rattle.numbers.proofs.Answers.{answer_value, answer_number}
 
 pub refuses : (n k : ℕ) (p : Placement) (ss fs : List ℕ) → n ≡ k → (n ≡ 0 → ⊥) → outcome_of (Refused n) ss fs ≡ answer k p
-refuses n k p ss fs e d = rw (← e) (sym (answer-number n p d))
+refuses n k p ss fs e d = rw (← e) (sym (answer_number n p d))
 
 pub accepts : (k : ℕ) (p q : Placement) → k ≡ 0 → p ≡ q → accepted p ≡ answer k q
-accepts k p q e h = ap accepted h ∙ sym (answer-value k q e)
+accepts k p q e h = ap accepted h ∙ sym (answer_value k q e)
 
 -- a room n or more
 module _ (m : RegionMap) (n : ℕ) (ss fs : List ℕ) where
-  pub room-refused : room_refusal (placement_of m ss fs) n ss fs ≡ 1 → Roomed m n ss fs (Refused 1)
-  room-refused e = record { answer = refuses 1 _ (with_room (placement_of m ss fs) n) ss fs (sym e) (λ z. omega arith); valid = λ v. tt }
+  pub room_refused : room_refusal (placement_of m ss fs) n ss fs ≡ 1 → Roomed m n ss fs (Refused 1)
+  room_refused e = record { answer = refuses 1 _ (with_room (placement_of m ss fs) n) ss fs (sym e) (λ z. omega arith); valid = λ v. tt }
 
-  pub room-given : room_refusal (placement_of m ss fs) n ss fs ≡ 0 → n ≤ limit → (k : ℕ) → k ≡ max m.room n → Roomed m n ss fs (Map (record { first = m.first; len = m.len; capacity = m.capacity; count = m.count; room = k }))
-  room-given e l k h =
+  pub room_given : room_refusal (placement_of m ss fs) n ss fs ≡ 0 → n ≤ limit → (k : ℕ) → k ≡ max m.room n → Roomed m n ss fs (Map (record { first = m.first; len = m.len; capacity = m.capacity; count = m.count; room = k }))
+  room_given e l k h =
       record {
         answer = accepts _ _ (with_room (placement_of m ss fs) n) e (rw h);
         valid = λ v.
@@ -43,17 +43,17 @@ module _ (m : RegionMap) (n : ℕ) (ss fs : List ℕ) where
 
 -- a length n or more
 module _ (m : RegionMap) (n : ℕ) where
-  pub publish-refused : m.capacity < n → Published m n (Refused 23)
+  pub publish_refused : m.capacity < n → Published m n (Refused 23)
   unfolding refuse
-  publish-refused h =
+  publish_refused h =
       record {
         answer = λ ss fs. refuses 23 _ (published (placement_of m ss fs) n) ss fs (simp (lt-ltb _ _ h)) (λ z. omega arith);
         valid = λ ss fs v. tt;
       }
 
-  pub publish-given : n ≤ m.capacity → (k : ℕ) → k ≡ max m.len n → Published m n (Map (record { first = m.first; len = k; capacity = m.capacity; count = m.count; room = m.room }))
+  pub publish_given : n ≤ m.capacity → (k : ℕ) → k ≡ max m.len n → Published m n (Map (record { first = m.first; len = k; capacity = m.capacity; count = m.count; room = m.room }))
   unfolding refuse
-  publish-given l k h =
+  publish_given l k h =
       record {
         answer = λ ss fs. accepts _ _ (published (placement_of m ss fs) n) (simp (le-ltb _ _ l)) (rw h);
         valid = λ ss fs v.

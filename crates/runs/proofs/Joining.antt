@@ -15,28 +15,28 @@ use Rattle.numbers.specs.Pairs.{pairs}
 use Rattle.numbers.specs.Range.{Range, range, blank}
 use Rattle.numbers.specs.Refusals.{accepted}
 use Rattle.numbers.specs.Sums.{top, stop}
-use Rattle.numbers.proofs.Answers.{one_passes, one-fails}
+use Rattle.numbers.proofs.Answers.{one_passes, one_fails}
 use Rattle.numbers.proofs.Cases.{and-true}
-use Rattle.numbers.proofs.Lists.{written-length, written_next}
-use Rattle.numbers.proofs.Pairs.{length_pairs, pair-at, pair-in}
-use Rattle.numbers.proofs.Sums.{stop-add}
+use Rattle.numbers.proofs.Lists.{written_length, written_next}
+use Rattle.numbers.proofs.Pairs.{length_pairs, pair_at, pair_in}
+use Rattle.numbers.proofs.Sums.{stop_add}
 
 abbrev extent : List ℕ → ℕ → Range
 extent xs i = range (get_or xs (2 * i) 0) (get_or xs (2 * i + 1) 0)
 
 module _ (xs : List ℕ) (i : ℕ) (h : i < length (pairs xs)) where
-  next-extent : drop i (pairs xs) ≡ extent xs i ∷ drop (i + 1) (pairs xs)
-  next-extent =
+  next_extent : drop i (pairs xs) ≡ extent xs i ∷ drop (i + 1) (pairs xs)
+  next_extent =
       let e : suc i ≡ i + 1 = omega arith in
-      drop-cons (pairs xs) i blank h ∙ rw (pair-at xs i (pair-in xs i h), e)
+      drop-cons (pairs xs) i blank h ∙ rw (pair_at xs i (pair_in xs i h), e)
 
   skipped : get_or xs (2 * i + 1) 0 ≡ 0 → not_empty (drop i (pairs xs)) ≡ not_empty (drop (i + 1) (pairs xs))
   unfolding not_empty
-  skipped z = rw next-extent (simp (eq-eqb _ _ z))
+  skipped z = rw next_extent (simp (eq-eqb _ _ z))
 
   kept : (get_or xs (2 * i + 1) 0 ≡ 0 → ⊥) → not_empty (drop i (pairs xs)) ≡ extent xs i ∷ not_empty (drop (i + 1) (pairs xs))
   unfolding not_empty
-  kept d = rw next-extent (simp (ne_eqb _ _ d))
+  kept d = rw next_extent (simp (ne_eqb _ _ d))
 
 -- what it means that an extent joins
 pub record Joins (r x : Range) : Type 0 where
@@ -52,9 +52,9 @@ module _ (r x : Range) where
       let b = and-true _ _ a.0 in
       record { ends = eqb-true _ _ b.0; below = leb-true _ _ b.1; short = leb-true _ _ a.1 }
 
-  pub true-joins : Joins r x → joins r x ≡ true
+  pub true_joins : Joins r x → joins r x ≡ true
   unfolding joins
-  true-joins m = simp (eq-eqb _ _ m.ends, le-leb _ _ m.below, le-leb _ _ m.short)
+  true_joins m = simp (eq-eqb _ _ m.ends, le-leb _ _ m.below, le-leb _ _ m.short)
 
 -- the run that begins with the extent i is (file, len) up to the extent j
 pub record Reaching (xs : List ℕ) (i n file len j : ℕ) : Type 0 where
@@ -64,10 +64,10 @@ pub record Reaching (xs : List ℕ) (i n file len j : ℕ) : Type 0 where
   pub from : (get_or (pairs xs) i blank).offset ≡ file
   pub goes : joined_to (get_or (pairs xs) i blank) (not_empty (drop (i + 1) (pairs xs))) ≡ joined_to (range file len) (not_empty (drop j (pairs xs)))
 
-pub reach-begins : (xs : List ℕ) (i : ℕ) → i < length (pairs xs) → Reaching xs i (length xs / 2) (get_or xs (2 * i) 0) (get_or xs (2 * i + 1) 0) (i + 1)
-reach-begins xs i h =
+pub reach_begins : (xs : List ℕ) (i : ℕ) → i < length (pairs xs) → Reaching xs i (length xs / 2) (get_or xs (2 * i) 0) (get_or xs (2 * i + 1) 0) (i + 1)
+reach_begins xs i h =
     let e = length_pairs xs in
-    let a = pair-at xs i (pair-in xs i h) in
+    let a = pair_at xs i (pair_in xs i h) in
     record { all = sym e; behind = omega arith; inside = omega arith; from = rw a; goes = rw a }
 
 module _ {xs : List ℕ} {i n file len j : ℕ} (g : Reaching xs i n file len j) where
@@ -75,11 +75,11 @@ module _ {xs : List ℕ} {i n file len j : ℕ} (g : Reaching xs i n file len j)
     h : j < length (pairs xs)
     h = omega (arith, g.all)
 
-    pub reach-in : 2 * j + 1 < length xs
-    reach-in = pair-in xs j h
+    pub reach_in : 2 * j + 1 < length xs
+    reach_in = pair_in xs j h
 
-    pub reach-skips : get_or xs (2 * j + 1) 0 ≡ 0 → Reaching xs i n file len (j + 1)
-    reach-skips z =
+    pub reach_skips : get_or xs (2 * j + 1) 0 ≡ 0 → Reaching xs i n file len (j + 1)
+    reach_skips z =
         record {
           all = g.all;
           behind = omega (arith, g.behind);
@@ -89,9 +89,9 @@ module _ {xs : List ℕ} {i n file len j : ℕ} (g : Reaching xs i n file len j)
         }
 
     module _ (d : get_or xs (2 * j + 1) 0 ≡ 0 → ⊥) where
-      pub reach-joins : joins (range file len) (extent xs j) ≡ true → Reaching xs i n file (len + get_or xs (2 * j + 1) 0) (j + 1)
+      pub reach_joins : joins (range file len) (extent xs j) ≡ true → Reaching xs i n file (len + get_or xs (2 * j + 1) 0) (j + 1)
       unfolding joined_to
-      reach-joins t =
+      reach_joins t =
           record {
             all = g.all;
             behind = omega (arith, g.behind);
@@ -100,18 +100,18 @@ module _ {xs : List ℕ} {i n file len j : ℕ} (g : Reaching xs i n file len j)
             goes = g.goes ∙ rw (kept xs j h d) (simp t);
           }
 
-      pub reach-stops : joins (range file len) (extent xs j) ≡ false → Reached (pairs xs) i len j
+      pub reach_stops : joins (range file len) (extent xs j) ≡ false → Reached (pairs xs) i len j
       unfolding joined_to joined
-      reach-stops f =
+      reach_stops f =
           record {
             behind = g.behind;
             inside = omega arith;
             goes = g.goes ∙ rw (g.from, kept xs j h d) (simp f);
           }
 
-  pub reach-ends : n ≤ j → Reached (pairs xs) i len j
+  pub reach_ends : n ≤ j → Reached (pairs xs) i len j
   unfolding joined_to joined not_empty
-  reach-ends l =
+  reach_ends l =
       record {
         behind = g.behind;
         inside = omega (arith, g.all, g.inside);
@@ -134,8 +134,8 @@ pub record Joining (xs s₀ s f₀ f l₀ l : List ℕ) (n start k i : ℕ) : Ty
   pub lens : l ≡ written (map (λ (r : Run). r.len) done) l₀
 
 module _ (xs s₀ f₀ l₀ : List ℕ) where
-  pub join-begins : (length (pairs xs) ≤ length s₀) × (length (pairs xs) ≤ length f₀) × (length (pairs xs) ≤ length l₀) → Joining xs s₀ s₀ f₀ f₀ l₀ l₀ (length xs / 2) 0 0 0
-  join-begins p =
+  pub join_begins : (length (pairs xs) ≤ length s₀) × (length (pairs xs) ≤ length f₀) × (length (pairs xs) ≤ length l₀) → Joining xs s₀ s₀ f₀ f₀ l₀ l₀ (length xs / 2) 0 0 0
+  join_begins p =
       let e = length_pairs xs in
       record {
         all = sym e;
@@ -158,11 +158,11 @@ module _ (p : Run → ℕ) (done : List Run) (s₀ s : List ℕ) (k : ℕ) (c : 
   fills r h = rw (e, map-append p done (r ∷ [])) (written_next (map p done) s₀ k (p r) (length-map done p ∙ c) h)
 
   pub same_length : k ≤ length s₀ → length s ≡ length s₀
-  same_length h = rw e (written-length (map p done) s₀ (rw (length-map done p, c) h))
+  same_length h = rw e (written_length (map p done) s₀ (rw (length-map done p, c) h))
 
 module _ {xs s₀ s f₀ f l₀ l : List ℕ} {n start k i : ℕ} (g : Joining xs s₀ s f₀ f l₀ l n start k i) where
-  pub join-lengths : (length s ≡ length s₀) × (length f ≡ length f₀) × (length l ≡ length l₀)
-  join-lengths =
+  pub join_lengths : (length s ≡ length s₀) × (length f ≡ length f₀) × (length l ≡ length l₀)
+  join_lengths =
       let r = g.rooms in (
         same_length (λ (r : Run). r.start) g.done s₀ s k g.count g.starts (omega (arith, r.0, g.room, g.inside)),
         same_length (λ (r : Run). r.file) g.done f₀ f k g.count g.files (omega (arith, r.1, g.room, g.inside)),
@@ -173,17 +173,17 @@ module _ {xs s₀ s f₀ f l₀ l : List ℕ} {n start k i : ℕ} (g : Joining x
     inner : i < length (pairs xs)
     inner = omega (arith, g.all)
 
-    pub join-in : 2 * i + 1 < length xs
-    join-in = pair-in xs i inner
+    pub join_in : 2 * i + 1 < length xs
+    join_in = pair_in xs i inner
 
-    pub join-room : (k < length s) × (k < length f) × (k < length l)
-    join-room =
+    pub join_room : (k < length s) × (k < length f) × (k < length l)
+    join_room =
         let r = g.rooms in
-        let e = join-lengths in
+        let e = join_lengths in
         (omega (arith, r.0, e.0, g.room), omega (arith, r.1, e.1, g.room), omega (arith, r.2, e.2, g.room))
 
-    pub join-skips : get_or xs (2 * i + 1) 0 ≡ 0 → Joining xs s₀ s f₀ f l₀ l n start k (i + 1)
-    join-skips z =
+    pub join_skips : get_or xs (2 * i + 1) 0 ≡ 0 → Joining xs s₀ s f₀ f l₀ l n start k (i + 1)
+    join_skips z =
         record {
           all = g.all;
           inside = omega arith;
@@ -199,15 +199,15 @@ module _ {xs s₀ s f₀ f l₀ l : List ℕ} {n start k i : ℕ} (g : Joining x
           lens = g.lens;
         }
 
-    pub join-writes : (len next start' : ℕ) → (get_or xs (2 * i + 1) 0 ≡ 0 → ⊥) → Reached (pairs xs) i len next → start' ≡ stop (start + len) → Joining xs s₀ (set s k start) f₀ (set f k (get_or xs (2 * i) 0)) l₀ (set l k len) n start' (k + 1) next
+    pub join_writes : (len next start' : ℕ) → (get_or xs (2 * i + 1) 0 ≡ 0 → ⊥) → Reached (pairs xs) i len next → start' ≡ stop (start + len) → Joining xs s₀ (set s k start) f₀ (set f k (get_or xs (2 * i) 0)) l₀ (set l k len) n start' (k + 1) next
     unfolding joined runs_from
-    join-writes len next start' d a e =
+    join_writes len next start' d a e =
         let r = run start (get_or xs (2 * i) 0) len in
         let m = g.rooms in
         let later = runs_from (g.before + len) (joined (not_empty (drop next (pairs xs)))) in
         let c : length (g.done ++ (r ∷ [])) ≡ k + 1 = length-append g.done (r ∷ []) ∙ omega (arith, g.count) in
         let w : joined (not_empty (drop i (pairs xs))) ≡ range (get_or xs (2 * i) 0) len ∷ joined (not_empty (drop next (pairs xs))) =
-        rw (kept xs i inner d) (subst (λ (x : Range). joined_to x (not_empty (drop (i + 1) (pairs xs))) ≡ range x.offset len ∷ joined (not_empty (drop next (pairs xs)))) (pair-at xs i (pair-in xs i inner)) a.goes) in
+        rw (kept xs i inner d) (subst (λ (x : Range). joined_to x (not_empty (drop (i + 1) (pairs xs))) ≡ range x.offset len ∷ joined (not_empty (drop next (pairs xs)))) (pair_at xs i (pair_in xs i inner)) a.goes) in
         record {
           all = g.all;
           inside = omega (arith, a.inside, g.all);
@@ -216,7 +216,7 @@ module _ {xs s₀ s f₀ f l₀ l : List ℕ} {n start k i : ℕ} (g : Joining x
           done = g.done ++ (r ∷ []);
           before = g.before + len;
           count = c;
-          from = e ∙ rw g.from (stop-add g.before len);
+          from = e ∙ rw g.from (stop_add g.before len);
           rest =
               g.rest
               ∙ ap (λ (ys : List Range). g.done ++ runs_from g.before ys) w
@@ -227,9 +227,9 @@ module _ {xs s₀ s f₀ f l₀ l : List ℕ} {n start k i : ℕ} (g : Joining x
           lens = fills (λ (r : Run). r.len) g.done l₀ l k g.count g.lens r (omega (arith, m.2, g.room));
         }
 
-  pub join-ends : n ≤ i → Joined (pairs xs) s₀ s f₀ f l₀ l k
+  pub join_ends : n ≤ i → Joined (pairs xs) s₀ s f₀ f l₀ l k
   unfolding not_empty joined runs_from
-  join-ends t =
+  join_ends t =
       let e : runs_of (pairs xs) ≡ g.done = g.rest ∙ rw (drop_of_length-le (pairs xs) {i = i} (omega (arith, g.all))) (append-nil g.done) in
       record {
         count = sym (ap length e ∙ g.count);
@@ -240,11 +240,11 @@ module _ {xs s₀ s f₀ f l₀ l : List ℕ} {n start k i : ℕ} (g : Joining x
 
 -- what `runs` answers
 module _ {xs s₀ f₀ l₀ : List ℕ} where
-  pub runs-refused : runs_fail xs (length s₀) (length f₀) (length l₀) ≡ true → Listed xs s₀ s₀ f₀ f₀ l₀ l₀ (count_of (Refused 1))
-  runs-refused e = record { answer = sym (one-fails 1 _ _ (omega arith) e); starts = simp e; files = simp e; lens = simp e }
+  pub runs_refused : runs_fail xs (length s₀) (length f₀) (length l₀) ≡ true → Listed xs s₀ s₀ f₀ f₀ l₀ l₀ (count_of (Refused 1))
+  runs_refused e = record { answer = sym (one_fails 1 _ _ (omega arith) e); starts = simp e; files = simp e; lens = simp e }
 
-  pub runs-accepted : {s f l : List ℕ} {k : ℕ} → runs_fail xs (length s₀) (length f₀) (length l₀) ≡ false → Joined (pairs xs) s₀ s f₀ f l₀ l k → Listed xs s₀ s f₀ f l₀ l (count_of (Runs k))
-  runs-accepted e j =
+  pub runs_accepted : {s f l : List ℕ} {k : ℕ} → runs_fail xs (length s₀) (length f₀) (length l₀) ≡ false → Joined (pairs xs) s₀ s f₀ f l₀ l k → Listed xs s₀ s f₀ f l₀ l (count_of (Runs k))
+  runs_accepted e j =
       record {
         answer = ap accepted j.count ∙ sym (one_passes 1 _ _ e);
         starts = simp e j.starts;

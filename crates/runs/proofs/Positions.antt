@@ -12,80 +12,80 @@ use borrow.Author.Tests.{lt-ltb, le-ltb, eqb-true}
 use Rattle.runs.specs.Runs.{Run, blank_run, not_empty, joins, joined_to, joined, runs_from, runs_of, byte_of, Holds, run_byte}
 use Rattle.numbers.specs.Range.{Range, range, blank, total}
 use Rattle.numbers.specs.Sums.{top, stop, sum}
-use Rattle.runs.proofs.Joining.{joins_true, true-joins}
-use Rattle.numbers.proofs.Cases.{cases, by-lt, clash}
+use Rattle.runs.proofs.Joining.{joins_true, true_joins}
+use Rattle.numbers.proofs.Cases.{cases, by_lt, clash}
 
 -- ---- joining moves no byte, and keeps the lengths together
 
 -- one extent after another
-pub byte-here : (x : Range) (xs : List Range) (p : ℕ) → p < x.len → byte_of (x ∷ xs) p ≡ x.offset + p
+pub byte_here : (x : Range) (xs : List Range) (p : ℕ) → p < x.len → byte_of (x ∷ xs) p ≡ x.offset + p
 unfolding byte_of
-byte-here x xs p h = simp (lt-ltb _ _ h)
+byte_here x xs p h = simp (lt-ltb _ _ h)
 
-pub byte-later : (x : Range) (xs : List Range) (p : ℕ) → x.len ≤ p → byte_of (x ∷ xs) p ≡ byte_of xs (p - x.len)
+pub byte_later : (x : Range) (xs : List Range) (p : ℕ) → x.len ≤ p → byte_of (x ∷ xs) p ≡ byte_of xs (p - x.len)
 unfolding byte_of
-byte-later x xs p h = simp (le-ltb _ _ h)
+byte_later x xs p h = simp (le-ltb _ _ h)
 
-byte-joined : (r x : Range) (xs : List Range) (p : ℕ) → joins r x ≡ true → byte_of (range r.offset (r.len + x.len) ∷ xs) p ≡ byte_of (r ∷ x ∷ xs) p
-byte-joined r x xs p e =
+byte_joined : (r x : Range) (xs : List Range) (p : ℕ) → joins r x ≡ true → byte_of (range r.offset (r.len + x.len) ∷ xs) p ≡ byte_of (r ∷ x ∷ xs) p
+byte_joined r x xs p e =
     let j = (joins_true r x e).ends in
     let w = range r.offset (r.len + x.len) in
-    by-lt p r.len
-    (λ h. byte-here w xs p (omega arith) ∙ sym (byte-here r (x ∷ xs) p h))
-    (λ h. by-lt p (r.len + x.len)
+    by_lt p r.len
+    (λ h. byte_here w xs p (omega arith) ∙ sym (byte_here r (x ∷ xs) p h))
+    (λ h. by_lt p (r.len + x.len)
     (λ l.
     let a : r.offset + p ≡ x.offset + (p - r.len) = omega arith in
-    byte-here w xs p l ∙ a ∙ sym (byte-later r (x ∷ xs) p h ∙ byte-here x xs (p - r.len) (omega arith)))
+    byte_here w xs p l ∙ a ∙ sym (byte_later r (x ∷ xs) p h ∙ byte_here x xs (p - r.len) (omega arith)))
     (λ l.
     let a : p - (r.len + x.len) ≡ p - r.len - x.len = omega arith in
-    byte-later w xs p l ∙ ap (byte_of xs) a ∙ sym (byte-later r (x ∷ xs) p h ∙ byte-later x xs (p - r.len) (omega arith))))
+    byte_later w xs p l ∙ ap (byte_of xs) a ∙ sym (byte_later r (x ∷ xs) p h ∙ byte_later x xs (p - r.len) (omega arith))))
 
-byte-same : (r : Range) (a b : List Range) → ((p : ℕ) → byte_of a p ≡ byte_of b p) → (p : ℕ) → byte_of (r ∷ a) p ≡ byte_of (r ∷ b) p
-byte-same r a b f p =
-    by-lt p r.len (λ h. byte-here r a p h ∙ sym (byte-here r b p h))
-    (λ h. byte-later r a p h ∙ f (p - r.len) ∙ sym (byte-later r b p h))
+byte_same : (r : Range) (a b : List Range) → ((p : ℕ) → byte_of a p ≡ byte_of b p) → (p : ℕ) → byte_of (r ∷ a) p ≡ byte_of (r ∷ b) p
+byte_same r a b f p =
+    by_lt p r.len (λ h. byte_here r a p h ∙ sym (byte_here r b p h))
+    (λ h. byte_later r a p h ∙ f (p - r.len) ∙ sym (byte_later r b p h))
 
-bytes-joined_to : (r : Range) (xs : List Range) (p : ℕ) → byte_of (joined_to r xs) p ≡ byte_of (r ∷ xs) p
+bytes_joined_to : (r : Range) (xs : List Range) (p : ℕ) → byte_of (joined_to r xs) p ≡ byte_of (r ∷ xs) p
 unfolding joined_to
-bytes-joined_to r [] p = refl
-bytes-joined_to r (x ∷ xs) p =
-    cases (joins r x) (λ e. simp e (bytes-joined_to (range r.offset (r.len + x.len)) xs p ∙ byte-joined r x xs p e))
-    (λ e. simp e (byte-same r (joined_to x xs) (x ∷ xs) (bytes-joined_to x xs) p))
+bytes_joined_to r [] p = refl
+bytes_joined_to r (x ∷ xs) p =
+    cases (joins r x) (λ e. simp e (bytes_joined_to (range r.offset (r.len + x.len)) xs p ∙ byte_joined r x xs p e))
+    (λ e. simp e (byte_same r (joined_to x xs) (x ∷ xs) (bytes_joined_to x xs) p))
 
-bytes-not_empty : (xs : List Range) (p : ℕ) → byte_of (not_empty xs) p ≡ byte_of xs p
+bytes_not_empty : (xs : List Range) (p : ℕ) → byte_of (not_empty xs) p ≡ byte_of xs p
 unfolding not_empty
-bytes-not_empty [] p = refl
-bytes-not_empty (x ∷ xs) p =
+bytes_not_empty [] p = refl
+bytes_not_empty (x ∷ xs) p =
     cases (eqb x.len 0)
     (λ e.
     let z = eqb-true x.len 0 e in
     let a : p - x.len ≡ p = omega arith in
-    simp e (bytes-not_empty xs p ∙ sym (byte-later x xs p (omega arith) ∙ ap (byte_of xs) a)))
-    (λ e. simp e (byte-same x (not_empty xs) xs (bytes-not_empty xs) p))
+    simp e (bytes_not_empty xs p ∙ sym (byte_later x xs p (omega arith) ∙ ap (byte_of xs) a)))
+    (λ e. simp e (byte_same x (not_empty xs) xs (bytes_not_empty xs) p))
 
-bytes-joined : (xs : List Range) (p : ℕ) → byte_of (joined xs) p ≡ byte_of xs p
+bytes_joined : (xs : List Range) (p : ℕ) → byte_of (joined xs) p ≡ byte_of xs p
 unfolding joined
-bytes-joined [] p = refl
-bytes-joined (x ∷ xs) p = bytes-joined_to x xs p
+bytes_joined [] p = refl
+bytes_joined (x ∷ xs) p = bytes_joined_to x xs p
 
-total-joined_to : (r : Range) (xs : List Range) → total (joined_to r xs) ≡ r.len + total xs
+total_joined_to : (r : Range) (xs : List Range) → total (joined_to r xs) ≡ r.len + total xs
 unfolding joined_to sum
-total-joined_to r [] = refl
-total-joined_to r (x ∷ xs) =
-    cases (joins r x) (λ e. simp e (let i = total-joined_to (range r.offset (r.len + x.len)) xs in omega arith))
-    (λ e. simp e (let i = total-joined_to x xs in omega arith))
+total_joined_to r [] = refl
+total_joined_to r (x ∷ xs) =
+    cases (joins r x) (λ e. simp e (let i = total_joined_to (range r.offset (r.len + x.len)) xs in omega arith))
+    (λ e. simp e (let i = total_joined_to x xs in omega arith))
 
-pub total-joined : (xs : List Range) → total (joined xs) ≡ total xs
+pub total_joined : (xs : List Range) → total (joined xs) ≡ total xs
 unfolding joined sum
-total-joined [] = refl
-total-joined (x ∷ xs) = total-joined_to x xs
+total_joined [] = refl
+total_joined (x ∷ xs) = total_joined_to x xs
 
-pub total-not_empty : (xs : List Range) → total (not_empty xs) ≡ total xs
+pub total_not_empty : (xs : List Range) → total (not_empty xs) ≡ total xs
 unfolding not_empty sum
-total-not_empty [] = refl
-total-not_empty (x ∷ xs) =
-    cases (eqb x.len 0) (λ e. let z = eqb-true x.len 0 e in simp e (let i = total-not_empty xs in omega arith))
-    (λ e. simp e (ap (λ (n : ℕ). x.len + n) (total-not_empty xs)))
+total_not_empty [] = refl
+total_not_empty (x ∷ xs) =
+    cases (eqb x.len 0) (λ e. let z = eqb-true x.len 0 e in simp e (let i = total_not_empty xs in omega arith))
+    (λ e. simp e (ap (λ (n : ℕ). x.len + n) (total_not_empty xs)))
 
 -- ---- one run for each position
 
@@ -97,39 +97,39 @@ record Within (rs : List Run) (p byte : ℕ) : Type 0 where
   there : run_byte (get_or rs place blank_run) p ≡ byte
 
 -- no run starts before the lengths in front of the list
-not-before : (b : ℕ) (ys : List Range) (j : ℕ) → j < length (runs_from b ys) → stop b ≤ (get_or (runs_from b ys) j blank_run).start
+not_before : (b : ℕ) (ys : List Range) (j : ℕ) → j < length (runs_from b ys) → stop b ≤ (get_or (runs_from b ys) j blank_run).start
 unfolding runs_from
-not-before b [] j h = absurd (not-suc-le-zero h)
-not-before b (y ∷ ys) zero h = omega arith
-not-before b (y ∷ ys) (suc j) h = let i = not-before (b + y.len) ys j (le_of_suc-le-suc h) in omega arith
+not_before b [] j h = absurd (not-suc-le-zero h)
+not_before b (y ∷ ys) zero h = omega arith
+not_before b (y ∷ ys) (suc j) h = let i = not_before (b + y.len) ys j (le_of_suc-le-suc h) in omega arith
 
 module _ (b : ℕ) (y : Range) (ys : List Range) (p : ℕ) (low : b ≤ p) (high : p < top) where
-  in-first : p < b + y.len → Within (runs_from b (y ∷ ys)) p (byte_of (y ∷ ys) (p - b))
+  in_first : p < b + y.len → Within (runs_from b (y ∷ ys)) p (byte_of (y ∷ ys) (p - b))
   unfolding runs_from
-  in-first l =
+  in_first l =
       let e : y.offset + (p - stop b) ≡ y.offset + (p - b) = omega arith in
       record {
         place = 0;
         inside = omega arith;
         holds = record { from = omega arith; upto = omega arith };
-        only = none-later;
-        there = e ∙ sym (byte-here y ys (p - b) (omega arith));
+        only = none_later;
+        there = e ∙ sym (byte_here y ys (p - b) (omega arith));
       }
     where
-      none-later : (j : ℕ) → j < length (runs_from b (y ∷ ys)) → Holds (get_or (runs_from b (y ∷ ys)) j blank_run) p → j ≡ 0
-      none-later zero h k = refl
-      none-later (suc j) h k = let n = not-before (b + y.len) ys j (le_of_suc-le-suc h) in absurd (omega (arith, k.from))
+      none_later : (j : ℕ) → j < length (runs_from b (y ∷ ys)) → Holds (get_or (runs_from b (y ∷ ys)) j blank_run) p → j ≡ 0
+      none_later zero h k = refl
+      none_later (suc j) h k = let n = not_before (b + y.len) ys j (le_of_suc-le-suc h) in absurd (omega (arith, k.from))
 
-  in-later : b + y.len ≤ p → Within (runs_from (b + y.len) ys) p (byte_of ys (p - (b + y.len))) → Within (runs_from b (y ∷ ys)) p (byte_of (y ∷ ys) (p - b))
+  in_later : b + y.len ≤ p → Within (runs_from (b + y.len) ys) p (byte_of ys (p - (b + y.len))) → Within (runs_from b (y ∷ ys)) p (byte_of (y ∷ ys) (p - b))
   unfolding runs_from
-  in-later l i =
+  in_later l i =
       let e : p - (b + y.len) ≡ p - b - y.len = omega arith in
       record {
         place = suc i.place;
         inside = let h = i.inside in omega arith;
         holds = i.holds;
         only = not_first;
-        there = i.there ∙ ap (byte_of ys) e ∙ sym (byte-later y ys (p - b) (omega arith));
+        there = i.there ∙ ap (byte_of ys) e ∙ sym (byte_later y ys (p - b) (omega arith));
       }
     where
       not_first : (j : ℕ) → j < length (runs_from b (y ∷ ys)) → Holds (get_or (runs_from b (y ∷ ys)) j blank_run) p → j ≡ suc i.place
@@ -140,8 +140,8 @@ within : (b : ℕ) (ys : List Range) (p : ℕ) → b ≤ p → p < top → p < b
 unfolding sum
 within b [] p low high h = absurd (omega arith)
 within b (y ∷ ys) p low high h =
-    by-lt p (b + y.len) (in-first b y ys p low high)
-    (λ l. in-later b y ys p low high l (within (b + y.len) ys p l high (omega arith)))
+    by_lt p (b + y.len) (in_first b y ys p low high)
+    (λ l. in_later b y ys p low high l (within (b + y.len) ys p l high (omega arith)))
 
 -- position p lies in one run and in no other, and that run gives the byte of p in the extents laid end to end
 pub record InOneRun (xs : List Range) (p : ℕ) : Type 0 where
@@ -151,16 +151,16 @@ pub record InOneRun (xs : List Range) (p : ℕ) : Type 0 where
   pub only : (j : ℕ) → j < length (runs_of xs) → Holds (get_or (runs_of xs) j blank_run) p → j ≡ place
   pub byte : run_byte (get_or (runs_of xs) place blank_run) p ≡ byte_of xs p
 
-pub in-one-run : (xs : List Range) (p : ℕ) → p < stop (total xs) → InOneRun xs p
-in-one-run xs p h =
-    let t = total-joined (not_empty xs) ∙ total-not_empty xs in
+pub in_one_run : (xs : List Range) (p : ℕ) → p < stop (total xs) → InOneRun xs p
+in_one_run xs p h =
+    let t = total_joined (not_empty xs) ∙ total_not_empty xs in
     let w = within 0 (joined (not_empty xs)) p (omega arith) (omega arith) (omega arith) in
     record {
       place = w.place;
       inside = w.inside;
       holds = w.holds;
       only = w.only;
-      byte = w.there ∙ ap (byte_of (joined (not_empty xs))) (sub-zero p) ∙ bytes-joined (not_empty xs) p ∙ bytes-not_empty xs p;
+      byte = w.there ∙ ap (byte_of (joined (not_empty xs))) (sub-zero p) ∙ bytes_joined (not_empty xs) p ∙ bytes_not_empty xs p;
     }
 
 -- ---- no two neighbours in the joined list join once more
@@ -189,7 +189,7 @@ longer r x h f o l =
     cases (joins r h)
     (λ t.
     let m = joins_true r h t in
-    clash (true-joins r x (record { ends = m.ends ∙ o; below = m.below; short = omega (arith, m.short) })) f)
+    clash (true_joins r x (record { ends = m.ends ∙ o; below = m.below; short = omega (arith, m.short) })) f)
     (λ n. n)
 
 -- at i and behind it
@@ -200,14 +200,14 @@ apart_next : (r x : Range) (xs : List Range) → joins r x ≡ false → ((j : �
 apart_next r x xs e f zero h = let b = begins x xs in rw b.is (longer r x b.head e b.from b.long)
 apart_next r x xs e f (suc i) h = f i (le_of_suc-le-suc h)
 
-apart-to : (r : Range) (xs : List Range) (i : ℕ) → NoJoin (joined_to r xs) i
+apart_to : (r : Range) (xs : List Range) (i : ℕ) → NoJoin (joined_to r xs) i
 unfolding joined_to
-apart-to r [] i = λ h. absurd (omega arith)
-apart-to r (x ∷ xs) i =
-    cases (joins r x) (λ e. simp e (apart-to (range r.offset (r.len + x.len)) xs i))
-    (λ e. simp e (apart_next r x xs e (apart-to x xs) i))
+apart_to r [] i = λ h. absurd (omega arith)
+apart_to r (x ∷ xs) i =
+    cases (joins r x) (λ e. simp e (apart_to (range r.offset (r.len + x.len)) xs i))
+    (λ e. simp e (apart_next r x xs e (apart_to x xs) i))
 
-pub runs-apart : (xs : List Range) (i : ℕ) → NoJoin (joined xs) i
+pub runs_apart : (xs : List Range) (i : ℕ) → NoJoin (joined xs) i
 unfolding joined
-runs-apart [] i = λ h. absurd (not-suc-le-zero h)
-runs-apart (x ∷ xs) i = apart-to x xs i
+runs_apart [] i = λ h. absurd (not-suc-le-zero h)
+runs_apart (x ∷ xs) i = apart_to x xs i

@@ -31,7 +31,7 @@ unfoldable pub joined_to : Range → List Range → List Range
 joined_to r [] = r ∷ []
 joined_to r (x ∷ xs) = cond (joins r x) (joined_to (range r.offset (r.len + x.len)) xs) (r ∷ joined_to x xs)
 
--- No neighbours are left that join (`runs-apart` in proofs/Positions).
+-- No neighbours are left that join (`runs_apart` in proofs/Positions).
 unfoldable pub joined : List Range → List Range
 joined [] = []
 joined (r ∷ rs) = joined_to r rs

@@ -25,20 +25,20 @@ digit_low b e = leb-true 48 b (and_left (leb 48 b) (leb b 57) e)
 
 -- ---- the slots
 
-fill-full : (out : List ℕ) (c : ℕ) (ns : List ℕ) → length out ≤ c → fill out c ns ≡ out
+fill_full : (out : List ℕ) (c : ℕ) (ns : List ℕ) → length out ≤ c → fill out c ns ≡ out
 unfolding fill
-fill-full out c [] h = refl
-fill-full out c (n ∷ ns) h = simp (le-ltb _ _ h)
+fill_full out c [] h = refl
+fill_full out c (n ∷ ns) h = simp (le-ltb _ _ h)
 
 -- nothing was put in
-none-put : (ns out : List ℕ) (c : ℕ) → out ≡ take c out ++ (take 0 ns ++ drop (c + 0) out)
-none-put ns out c = rw (add-zero c) (sym (take-append-drop c out))
+none_put : (ns out : List ℕ) (c : ℕ) → out ≡ take c out ++ (take 0 ns ++ drop (c + 0) out)
+none_put ns out c = rw (add-zero c) (sym (take-append-drop c out))
 
 fill_is :
     (ns out : List ℕ) (c m : ℕ) → m ≡ min (length ns) (length out - c) → fill out c ns ≡ take c out ++ (take m ns ++ drop (c + m) out)
 unfolding fill
-fill_is [] out c m e = let z : m ≡ 0 = omega arith in rw z (none-put [] out c)
-fill_is (n ∷ ns) out c zero e = let h : length out ≤ c = omega arith in simp (le-ltb _ _ h) (none-put (n ∷ ns) out c)
+fill_is [] out c m e = let z : m ≡ 0 = omega arith in rw z (none_put [] out c)
+fill_is (n ∷ ns) out c zero e = let h : length out ≤ c = omega arith in simp (le-ltb _ _ h) (none_put (n ∷ ns) out c)
 fill_is (n ∷ ns) out c (suc k) e =
     let h : c < length out = omega arith in
     let w : length (set out c n) ≡ length out = length-set out c n in
@@ -59,9 +59,9 @@ module _ (b : ℕ) (r : Reading) (out : List ℕ) (in-out : r.count ≤ length o
   digit v e q = record { begun = sym e; inside = in-out; slots = λ bs. simp e (rw q); count = λ bs. simp e (rw q) }
 
   module _ (e : is_digit b ≡ false) where
-    pub ends-number : r.begun ≡ true → r.count < length out → Reads b r out (state (r.count + 1) false 0) (set out r.count r.value)
+    pub ends_number : r.begun ≡ true → r.count < length out → Reads b r out (state (r.count + 1) false 0) (set out r.count r.value)
     unfolding numbers_from fill
-    ends-number o h = record {
+    ends_number o h = record {
       begun = sym e;
       inside = rw length-set (omega arith);
       slots = λ bs. simp (e, o, lt-ltb _ _ h);
@@ -73,7 +73,7 @@ module _ (b : ℕ) (r : Reading) (out : List ℕ) (in-out : r.count ≤ length o
     no_place o h = record {
       begun = sym e;
       inside = in-out;
-      slots = λ bs. fill-full out r.count _ h ∙ sym (fill-full out r.count _ h);
+      slots = λ bs. fill_full out r.count _ h ∙ sym (fill_full out r.count _ h);
       count = λ bs. simp (e, o) (omega arith);
     }
 

@@ -11,15 +11,15 @@ use Rattle.numbers.specs.Lists.{written}
 use Rattle.settle.specs.Inner.{firsts, no_region}
 use Rattle.settle.specs.Regions.{Region}
 use Rattle.settle.specs.Settle.{overlapped, renamed, superseded, mark_of, marks_from, marks_of}
-use Rattle.numbers.proofs.Lists.{written-length, written_next}
+use Rattle.numbers.proofs.Lists.{written_length, written_next}
 use mir.Val.{bool_byte}
 
 -- ---- the marks that are promised
 
-from-length : (us un : List Region) (j : ℕ) (rs : List Region) → length (marks_from us un j rs) ≡ length rs
+from_length : (us un : List Region) (j : ℕ) (rs : List Region) → length (marks_from us un j rs) ≡ length rs
 unfolding marks_from
-from-length us un j [] = refl
-from-length us un j (r ∷ rs) = ap suc (from-length us un (suc j) rs)
+from_length us un j [] = refl
+from_length us un j (r ∷ rs) = ap suc (from_length us un (suc j) rs)
 
 from_at : (us un : List Region) (j : ℕ) (rs : List Region) (i : ℕ) → i < length rs
     → get_or (marks_from us un j rs) i 0 ≡ mark_of (overlapped us (j + i)) (renamed us un (get_or rs i no_region)) (superseded us un (j + i))
@@ -35,55 +35,55 @@ from_at us un j (r ∷ rs) (suc i) h =
 
 -- what stands at each place
 module _ (us un : List Region) where
-  pub marks-length : length (marks_of us un) ≡ length us
-  marks-length = from-length us un 0 us
+  pub marks_length : length (marks_of us un) ≡ length us
+  marks_length = from_length us un 0 us
 
-  pub mark-at : (i : ℕ) → i < length us → get_or (marks_of us un) i 0 ≡ mark_of (overlapped us i) (renamed us un (get_or us i no_region)) (superseded us un i)
-  mark-at i h =
+  pub mark_at : (i : ℕ) → i < length us → get_or (marks_of us un) i 0 ≡ mark_of (overlapped us i) (renamed us un (get_or us i no_region)) (superseded us un i)
+  mark_at i h =
       let e : 0 + i ≡ i = omega arith in
       from_at us un 0 us i h ∙ ap (λ (k : ℕ). mark_of (overlapped us k) (renamed us un (get_or us i no_region)) (superseded us un k)) e
 
 -- each of the three is read back from the number
-pub mark-overlapped : (o r s : Bool) → eqb (mark_of o r s % 2) 1 ≡ o
-mark-overlapped true true true = refl
-mark-overlapped true true false = refl
-mark-overlapped true false true = refl
-mark-overlapped true false false = refl
-mark-overlapped false true true = refl
-mark-overlapped false true false = refl
-mark-overlapped false false true = refl
-mark-overlapped false false false = refl
+pub mark_overlapped : (o r s : Bool) → eqb (mark_of o r s % 2) 1 ≡ o
+mark_overlapped true true true = refl
+mark_overlapped true true false = refl
+mark_overlapped true false true = refl
+mark_overlapped true false false = refl
+mark_overlapped false true true = refl
+mark_overlapped false true false = refl
+mark_overlapped false false true = refl
+mark_overlapped false false false = refl
 
-pub mark-renamed : (o r s : Bool) → eqb (mark_of o r s / 2 % 2) 1 ≡ r
-mark-renamed true true true = refl
-mark-renamed true true false = refl
-mark-renamed true false true = refl
-mark-renamed true false false = refl
-mark-renamed false true true = refl
-mark-renamed false true false = refl
-mark-renamed false false true = refl
-mark-renamed false false false = refl
+pub mark_renamed : (o r s : Bool) → eqb (mark_of o r s / 2 % 2) 1 ≡ r
+mark_renamed true true true = refl
+mark_renamed true true false = refl
+mark_renamed true false true = refl
+mark_renamed true false false = refl
+mark_renamed false true true = refl
+mark_renamed false true false = refl
+mark_renamed false false true = refl
+mark_renamed false false false = refl
 
-pub mark-superseded : (o r s : Bool) → eqb (mark_of o r s / 4) 1 ≡ s
-mark-superseded true true true = refl
-mark-superseded true true false = refl
-mark-superseded true false true = refl
-mark-superseded true false false = refl
-mark-superseded false true true = refl
-mark-superseded false true false = refl
-mark-superseded false false true = refl
-mark-superseded false false false = refl
+pub mark_superseded : (o r s : Bool) → eqb (mark_of o r s / 4) 1 ≡ s
+mark_superseded true true true = refl
+mark_superseded true true false = refl
+mark_superseded true false true = refl
+mark_superseded true false false = refl
+mark_superseded false true true = refl
+mark_superseded false true false = refl
+mark_superseded false false true = refl
+mark_superseded false false false = refl
 
 -- it is 0 exactly where none holds
-pub mark-none : (o r s : Bool) → mark_of o r s ≡ 0 → (o ≡ false) × (r ≡ false) × (s ≡ false)
-mark-none o r s e = (
-  sym (mark-overlapped o r s) ∙ ap (λ (n : ℕ). eqb (n % 2) 1) e,
-  sym (mark-renamed o r s) ∙ ap (λ (n : ℕ). eqb (n / 2 % 2) 1) e,
-  sym (mark-superseded o r s) ∙ ap (λ (n : ℕ). eqb (n / 4) 1) e,
+pub mark_none : (o r s : Bool) → mark_of o r s ≡ 0 → (o ≡ false) × (r ≡ false) × (s ≡ false)
+mark_none o r s e = (
+  sym (mark_overlapped o r s) ∙ ap (λ (n : ℕ). eqb (n % 2) 1) e,
+  sym (mark_renamed o r s) ∙ ap (λ (n : ℕ). eqb (n / 2 % 2) 1) e,
+  sym (mark_superseded o r s) ∙ ap (λ (n : ℕ). eqb (n / 4) 1) e,
 )
 
-pub none-mark : (o r s : Bool) → o ≡ false → r ≡ false → s ≡ false → mark_of o r s ≡ 0
-none-mark o r s a b c = simp (a, b, c)
+pub none_mark : (o r s : Bool) → o ≡ false → r ≡ false → s ≡ false → mark_of o r s ≡ 0
+none_mark o r s a b c = simp (a, b, c)
 
 -- ---- as the code writes them
 
@@ -91,8 +91,8 @@ pub byte_small : (b : Bool) → bool_byte b ≤ 1
 byte_small true = omega arith
 byte_small false = omega arith
 
-pub mark-bytes : (o r s : Bool) → bool_byte o + 2 * bool_byte r + 4 * bool_byte s ≡ mark_of o r s
-mark-bytes o r s = rw (one o, two r, four s)
+pub mark_bytes : (o r s : Bool) → bool_byte o + 2 * bool_byte r + 4 * bool_byte s ≡ mark_of o r s
+mark_bytes o r s = rw (one o, two r, four s)
   where
     one : (b : Bool) → bool_byte b ≡ cond b 1 0
     one true = refl
@@ -106,10 +106,10 @@ mark-bytes o r s = rw (one o, two r, four s)
     four true = refl
     four false = refl
 
-pub firsts-length : (f : ℕ → ℕ) (n : ℕ) → length (firsts f n) ≡ n
+pub firsts_length : (f : ℕ → ℕ) (n : ℕ) → length (firsts f n) ≡ n
 unfolding firsts
-firsts-length f zero = refl
-firsts-length f (suc n) = let e = firsts-length f n in length-append (firsts f n) (f n ∷ []) ∙ omega arith
+firsts_length f zero = refl
+firsts_length f (suc n) = let e = firsts_length f n in length-append (firsts f n) (f n ∷ []) ∙ omega arith
 
 pub record Writing (f : ℕ → ℕ) (n : ℕ) (m₀ m : List ℕ) (i : ℕ) : Type 0 where
   pub room : n ≤ length m₀
@@ -121,18 +121,18 @@ unfolding firsts
 writing_begins f n m h = record { room = h; upto = omega arith; value = refl }
 
 module _ {f : ℕ → ℕ} {n : ℕ} {m₀ m : List ℕ} {i : ℕ} (g : Writing f n m₀ m i) where
-  pub writing-size : length m ≡ length m₀
-  writing-size = let e = firsts-length f i in ap length g.value ∙ written-length (firsts f i) m₀ (omega (arith, g.upto, g.room))
+  pub writing_size : length m ≡ length m₀
+  writing_size = let e = firsts_length f i in ap length g.value ∙ written_length (firsts f i) m₀ (omega (arith, g.upto, g.room))
 
-  pub writing-on : (x : ℕ) → i < n → x ≡ f i → Writing f n m₀ (set m i x) (i + 1)
+  pub writing_on : (x : ℕ) → i < n → x ≡ f i → Writing f n m₀ (set m i x) (i + 1)
   unfolding firsts
-  writing-on x h e =
+  writing_on x h e =
       let s : i + 1 ≡ suc i = omega arith in
       record {
         room = g.room;
         upto = omega arith;
-        value = rw (g.value, e) (written_next (firsts f i) m₀ i (f i) (firsts-length f i) (omega (arith, g.room))) ∙ ap (λ (k : ℕ). written (firsts f k) m₀) (sym s);
+        value = rw (g.value, e) (written_next (firsts f i) m₀ i (f i) (firsts_length f i) (omega (arith, g.room))) ∙ ap (λ (k : ℕ). written (firsts f k) m₀) (sym s);
       }
 
-  pub writing-ends : n ≤ i → m ≡ written (firsts f n) m₀
-  writing-ends h = let u = g.upto in let e : i ≡ n = omega arith in g.value ∙ ap (λ (k : ℕ). written (firsts f k) m₀) e
+  pub writing_ends : n ≤ i → m ≡ written (firsts f n) m₀
+  writing_ends h = let u = g.upto in let e : i ≡ n = omega arith in g.value ∙ ap (λ (k : ℕ). written (firsts f k) m₀) e

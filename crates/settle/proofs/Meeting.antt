@@ -20,13 +20,13 @@ use Rattle.settle.specs.Settle.{any_other, overlapped, superseded}
 use Rattle.settle.specs.Sweeping.{item_of, no_item, item_at, items_of, mirror, walk, within, usable_over, own_over, struck, behind}
 use Rattle.settle.specs.declared.sweep.Item.{Item}
 use Rattle.sort.specs.Sort.{Ascending}
-use Rattle.numbers.proofs.Cases.{by-lt}
-use Rattle.numbers.proofs.Lists.{all_append, all_of, all-imp, all_both, all_map, map-all, any_append, any-map, any_same, mapped_at}
-use Rattle.numbers.proofs.Order.{in-offset}
-use Rattle.numbers.proofs.Ranges.{end-top}
-use Rattle.settle.proofs.Others.{InTurn, across, across-none, behind-map, behind-reverse, behind-turn, other-append, other-behind, other-map, other_none, other-same, other-sorted}
-use Rattle.settle.proofs.Reading.{length-of, region-of}
-use Rattle.sort.proofs.Laws.{all-sorted, sorted-ascending}
+use Rattle.numbers.proofs.Cases.{by_lt}
+use Rattle.numbers.proofs.Lists.{all_append, all_of, all_imp, all_both, all_map, map_all, any_append, any_map, any_same, mapped_at}
+use Rattle.numbers.proofs.Order.{in_offset}
+use Rattle.numbers.proofs.Ranges.{end_top}
+use Rattle.settle.proofs.Others.{InTurn, across, across_none, behind_map, behind_reverse, behind_turn, other_append, other_behind, other_map, other_none, other_same, other_sorted}
+use Rattle.settle.proofs.Reading.{length_of, region_of}
+use Rattle.sort.proofs.Laws.{all_sorted, sorted_ascending}
 
 -- ---- the pieces of regions
 
@@ -45,27 +45,27 @@ pieces_of (r ∷ rs) i =
     (all_map (Of (r ∷ rs) i) (piece i r.seq) r.ranges
     (all_of (λ (x : Range). Of (r ∷ rs) i (piece i r.seq x)) r.ranges blank
     (λ k h. record { at = 0; inside = omega arith; region = omega arith; seq = refl })))
-    (all-imp (Of rs (suc i)) (Of (r ∷ rs) i)
+    (all_imp (Of rs (suc i)) (Of (r ∷ rs) i)
     (λ x o. record { at = suc o.at; inside = omega (arith, o.inside); region = omega (arith, o.region); seq = o.seq })
     (pieces_from (suc i) rs) (pieces_of rs (suc i)))
 
-of-lent : (g : Lent) (i : ℕ) (x : Piece) (p : Of (regions_of g) i x) → (p.at < g.count) × (x.seq ≡ get_or (take g.count g.seqs) p.at 0)
-of-lent g i x p =
-    let h : p.at < g.count = omega (arith, p.inside, length-of g) in
-    (h, p.seq ∙ ap (λ (q : Region). q.seq) (region-of g p.at h) ∙ sym (get_or-take g.count g.seqs p.at 0 h))
+of_lent : (g : Lent) (i : ℕ) (x : Piece) (p : Of (regions_of g) i x) → (p.at < g.count) × (x.seq ≡ get_or (take g.count g.seqs) p.at 0)
+of_lent g i x p =
+    let h : p.at < g.count = omega (arith, p.inside, length_of g) in
+    (h, p.seq ∙ ap (λ (q : Region). q.seq) (region_of g p.at h) ∙ sym (get_or-take g.count g.seqs p.at 0 h))
 
 -- a test of the number and the range alone is the same wherever the regions stand
-any-pieces : (g : ℕ → Range → Bool) (rs : List Region) (i j : ℕ)
+any_pieces : (g : ℕ → Range → Bool) (rs : List Region) (i j : ℕ)
     → any (λ (y : Piece). g y.seq y.range) (pieces_from i rs) ≡ any (λ (y : Piece). g y.seq y.range) (pieces_from j rs)
 unfolding pieces_from
-any-pieces g [] i j = refl
-any-pieces g (r ∷ rs) i j = parts i ∙ ap (λ (b : Bool). any (g r.seq) r.ranges || b) (any-pieces g rs (suc i) (suc j)) ∙ sym (parts j)
+any_pieces g [] i j = refl
+any_pieces g (r ∷ rs) i j = parts i ∙ ap (λ (b : Bool). any (g r.seq) r.ranges || b) (any_pieces g rs (suc i) (suc j)) ∙ sym (parts j)
   where
     parts : (k : ℕ) → any (λ (y : Piece). g y.seq y.range) (pieces_from k (r ∷ rs))
         ≡ (any (g r.seq) r.ranges || any (λ (y : Piece). g y.seq y.range) (pieces_from (suc k) rs))
     parts k =
         any_append (λ (y : Piece). g y.seq y.range) (map (piece k r.seq) r.ranges) (pieces_from (suc k) rs)
-        ∙ rw (any-map (λ (y : Piece). g y.seq y.range) (piece k r.seq) r.ranges)
+        ∙ rw (any_map (λ (y : Piece). g y.seq y.range) (piece k r.seq) r.ranges)
 
 -- ---- items that meet
 
@@ -73,33 +73,33 @@ any-pieces g (r ∷ rs) i j = parts i ∙ ap (λ (b : Bool). any (g r.seq) r.ran
 abbrev shares : Item → Item → Bool
 shares y x = ltb (max y.start x.start) (min y.end x.end)
 
-shares-comm : (y x : Item) → shares y x ≡ shares x y
-shares-comm y x =
+shares_comm : (y x : Item) → shares y x ≡ shares x y
+shares_comm y x =
     let a : max y.start x.start ≡ max x.start y.start = omega arith in
     let b : min y.end x.end ≡ min x.end y.end = omega arith in
     rw (a, b)
 
 mirrored : (s e : ℕ) → e ≤ top → ltb (top - e) (top - s) ≡ ltb s e
 mirrored s e h =
-    by-lt s e (λ l. lt-ltb (top - e) (top - s) (omega arith) ∙ sym (lt-ltb s e l))
+    by_lt s e (λ l. lt-ltb (top - e) (top - s) (omega arith) ∙ sym (lt-ltb s e l))
     (λ l. le-ltb (top - e) (top - s) (omega arith) ∙ sym (le-ltb s e l))
 
 -- x starts no later than y
 module _ (x y : Item) (h : x.start ≤ y.start) where
   in_order : (ltb x.start x.end && ltb y.start y.end && ltb y.start x.end) ≡ shares x y
   in_order =
-      by-lt y.start (min x.end y.end)
+      by_lt y.start (min x.end y.end)
       (λ a. rw (lt-ltb x.start x.end (omega arith), lt-ltb y.start y.end (omega arith), lt-ltb y.start x.end (omega arith))
       (sym (lt-ltb (max x.start y.start) (min x.end y.end) (omega arith))))
       (λ a.
-      by-lt y.start y.end (λ b. rw (le-ltb y.start x.end (omega arith), and-false)) (λ b. rw (le-ltb y.start y.end b, and-false))
+      by_lt y.start y.end (λ b. rw (le-ltb y.start x.end (omega arith), and-false)) (λ b. rw (le-ltb y.start y.end b, and-false))
       ∙ sym (le-ltb (max x.start y.start) (min x.end y.end) (omega arith)))
 
   -- on the way forward x stands in front of y
   forward : within y x ≡ shares y x
   forward =
       ap (λ (b : Bool). b && ltb y.start x.end) (and_comm (ltb y.start y.end) (ltb x.start x.end))
-      ∙ in_order ∙ shares-comm x y
+      ∙ in_order ∙ shares_comm x y
 
   -- and on the way back y in front of x
   back : x.end ≤ top → y.end ≤ top → within (mirror x) (mirror y) ≡ shares x y
@@ -120,13 +120,13 @@ early facts [] a b = tt
 early facts (p ∷ l) a b = (
   all_map (Early (item_at facts p)) (item_at facts) l
       (all_both (InOrder p) (λ (q : Range). (item_at facts q).end ≤ top) (λ (q : Range). Early (item_at facts p) (item_at facts q))
-      (λ q i e. (in-offset p q i, b.0, e)) l a.0 b.1),
+      (λ q i e. (in_offset p q i, b.0, e)) l a.0 b.1),
   early facts l a.1 b.1,
 )
 
 module _ (ps : List Piece) (order facts : List Range) (o : Ordered ps order facts) where
-  items-starts : map (item_at facts) o.starts ≡ map to_item ps
-  items-starts =
+  items_starts : map (item_at facts) o.starts ≡ map to_item ps
+  items_starts =
       let l = length-map o.starts (item_at facts) in
       let m = length-map ps to_item in
       let e = o.size in
@@ -135,21 +135,21 @@ module _ (ps : List Piece) (order facts : List Range) (o : Ordered ps order fact
       mapped_at (item_at facts) o.starts k blank no_item (omega arith)
       ∙ rw (o.start k (omega arith), o.fact k (omega arith)) (sym (mapped_at to_item ps k no_piece no_item (omega arith))))
 
-  starts-all : (P : Item → Type 0) → All (λ (x : Piece). P (to_item x)) ps → All (λ (p : Range). P (item_at facts p)) order
-  starts-all P a =
+  starts_all : (P : Item → Type 0) → All (λ (x : Piece). P (to_item x)) ps → All (λ (p : Range). P (item_at facts p)) order
+  starts_all P a =
       rw o.sort
-      (all-sorted (λ (p : Range). P (item_at facts p)) o.starts
-      (map-all P (item_at facts) o.starts (rw items-starts (all_map P to_item ps a))))
+      (all_sorted (λ (p : Range). P (item_at facts p)) o.starts
+      (map_all P (item_at facts) o.starts (rw items_starts (all_map P to_item ps a))))
 
   -- what holds of the item of each piece
-  pub items-all : (P : Item → Type 0) → All (λ (x : Piece). P (to_item x)) ps → All P (items_of order facts)
-  items-all P a = all_map P (item_at facts) order (starts-all P a)
+  pub items_all : (P : Item → Type 0) → All (λ (x : Piece). P (to_item x)) ps → All P (items_of order facts)
+  items_all P a = all_map P (item_at facts) order (starts_all P a)
 
   pieces_end : All (λ (x : Piece). end_of x.range ≤ top) ps
-  pieces_end = all_of (λ (x : Piece). end_of x.range ≤ top) ps no_piece (λ k h. end-top (get_or ps k no_piece).range)
+  pieces_end = all_of (λ (x : Piece). end_of x.range ≤ top) ps no_piece (λ k h. end_top (get_or ps k no_piece).range)
 
-  items-early : InTurn Early (items_of order facts)
-  items-early = early facts order (rw o.sort (sorted-ascending o.starts)) (starts-all (λ (x : Item). x.end ≤ top) pieces_end)
+  items_early : InTurn Early (items_of order facts)
+  items_early = early facts order (rw o.sort (sorted_ascending o.starts)) (starts_all (λ (x : Item). x.end ≤ top) pieces_end)
 
   -- c says which region counts against which: a range of i is struck on either way if a piece of i meets another one that
   -- counts against it, and only then
@@ -164,13 +164,13 @@ module _ (ps : List Piece) (order facts : List Range) (o : Ordered ps order fact
     both =
         let w = items_of order facts in
         ap (λ (b : Bool). b || behind strikes (reverse (map mirror w)))
-        (behind-turn strikes strike Early (λ x y e. ap (λ (b : Bool). eqb y.owner i && c y.owner x.owner && b) (forward x y e.0)) w items-early)
+        (behind_turn strikes strike Early (λ x y e. ap (λ (b : Bool). eqb y.owner i && c y.owner x.owner && b) (forward x y e.0)) w items_early)
         ∙ ap (λ (b : Bool). behind strike w || b)
-        (behind-reverse strikes (map mirror w)
-        ∙ behind-map (λ (y x : Item). strikes x y) mirror w
-        ∙ behind-turn (λ (y x : Item). strikes (mirror x) (mirror y)) (λ (y x : Item). strike x y) Early
-        (λ x y e. ap (λ (b : Bool). eqb x.owner i && c x.owner y.owner && b) (back x y e.0 e.1 e.2)) w items-early)
-        ∙ sym (other-behind strike w)
+        (behind_reverse strikes (map mirror w)
+        ∙ behind_map (λ (y x : Item). strikes x y) mirror w
+        ∙ behind_turn (λ (y x : Item). strikes (mirror x) (mirror y)) (λ (y x : Item). strike x y) Early
+        (λ x y e. ap (λ (b : Bool). eqb x.owner i && c x.owner y.owner && b) (back x y e.0 e.1 e.2)) w items_early)
+        ∙ sym (other_behind strike w)
 
     swept : (behind strikes (walk false (items_of order facts)) || behind strikes (walk true (items_of order facts)))
         ≡ any_other (λ (x y : Piece). eqb x.region i && c x.region y.region && meets x.range y.range) ps
@@ -178,15 +178,15 @@ module _ (ps : List Piece) (order facts : List Range) (o : Ordered ps order fact
     swept =
         let h = item_at facts in
         let f : Range → Range → Bool = λ p q. strike (h p) (h q) in
-        both ∙ other-map strike h order ∙ ap (any_other f) o.sort ∙ other-sorted f o.starts ∙ sym (other-map strike h o.starts)
-        ∙ ap (any_other strike) items-starts ∙ other-map strike to_item ps
+        both ∙ other_map strike h order ∙ ap (any_other f) o.sort ∙ other_sorted f o.starts ∙ sym (other_map strike h o.starts)
+        ∙ ap (any_other strike) items_starts ∙ other_map strike to_item ps
 
 -- ---- both kinds
 
 -- where at most is the same, below is
-below-too : (a b c d : ℕ) → leb a b ≡ leb c d → ltb b a ≡ ltb d c
-below-too a b c d e =
-    by-lt b a (λ h. lt-ltb b a h ∙ sym (lt-ltb d c (leb-false c d (sym e ∙ lt-leb a b h))))
+below_too : (a b c d : ℕ) → leb a b ≡ leb c d → ltb b a ≡ ltb d c
+below_too a b c d e =
+    by_lt b a (λ h. lt-ltb b a h ∙ sym (lt-ltb d c (leb-false c d (sym e ∙ lt-leb a b h))))
     (λ h. le-ltb b a h ∙ sym (le-ltb d c (leb-true c d (sym e ∙ le-leb a b h))))
 
 module _ (us un : Lent) (e : us.count ≤ length us.seqs) (e' : un.count ≤ length un.seqs) (order facts : List Range) (ranks : List ℕ)
@@ -220,39 +220,39 @@ module _ (us un : Lent) (e : us.count ≤ length us.seqs) (e' : un.count ≤ len
   front_length : length front ≡ us.count
   front_length = length-take-le us.count us.seqs e
 
-  pub all-seqs : length (take us.count us.seqs ++ take un.count un.seqs) ≡ us.count + un.count
-  all-seqs = length-append front rest ∙ omega (arith, front_length, length-take-le un.count un.seqs e')
+  pub all_seqs : length (take us.count us.seqs ++ take un.count un.seqs) ≡ us.count + un.count
+  all_seqs = length-append front rest ∙ omega (arith, front_length, length-take-le un.count un.seqs e')
 
   ours_at : (x : Piece) → Of (regions_of us) 0 x → Ours x
   ours_at x p =
-      let q = of-lent us 0 x p in
+      let q = of_lent us 0 x p in
       let h : x.region < us.count = omega (arith, p.region, q.0) in
       let f : p.at ≡ x.region = omega (arith, p.region) in
-      (h, (omega (arith, all-seqs), q.1 ∙ ap (λ (k : ℕ). get_or front k 0) f ∙ sym (get_or-append front rest 0 x.region (omega (arith, front_length)))))
+      (h, (omega (arith, all_seqs), q.1 ∙ ap (λ (k : ℕ). get_or front k 0) f ∙ sym (get_or-append front rest 0 x.region (omega (arith, front_length)))))
 
-  theirs-at : (x : Piece) → Of (regions_of un) us.count x → Theirs x
-  theirs-at x p =
-      let q = of-lent un us.count x p in
-      let h : x.region < length seqs = omega (arith, p.region, q.0, all-seqs) in
+  theirs_at : (x : Piece) → Of (regions_of un) us.count x → Theirs x
+  theirs_at x p =
+      let q = of_lent un us.count x p in
+      let h : x.region < length seqs = omega (arith, p.region, q.0, all_seqs) in
       let f : length front + p.at ≡ x.region = omega (arith, p.region, front_length) in
       (omega (arith, p.region), (h, q.1 ∙ sym (get_or-append-add front rest p.at 0) ∙ ap (λ (k : ℕ). get_or seqs k 0) f))
 
-  ours-all : All Ours ours
-  ours-all = all-imp (Of (regions_of us) 0) Ours ours_at ours (pieces_of (regions_of us) 0)
+  ours_all : All Ours ours
+  ours_all = all_imp (Of (regions_of us) 0) Ours ours_at ours (pieces_of (regions_of us) 0)
 
-  theirs-all : All Theirs theirs
-  theirs-all = all-imp (Of (regions_of un) us.count) Theirs theirs-at theirs (pieces_of (regions_of un) us.count)
+  theirs_all : All Theirs theirs
+  theirs_all = all_imp (Of (regions_of un) us.count) Theirs theirs_at theirs (pieces_of (regions_of un) us.count)
 
   all_known : All Known (ours ++ theirs)
   all_known =
       all_append Known ours theirs
-      (all-imp Ours Known (λ x p. p.1) ours ours-all)
-      (all-imp Theirs Known (λ x p. p.1) theirs theirs-all)
+      (all_imp Ours Known (λ x p. p.1) ours ours_all)
+      (all_imp Theirs Known (λ x p. p.1) theirs theirs_all)
 
-  pub items-owner : All (λ (x : Item). x.owner < us.count + un.count) (items_of order facts)
-  items-owner =
-      items-all (ours ++ theirs) order facts o (λ (x : Item). x.owner < us.count + un.count)
-      (all-imp Known (λ (x : Piece). x.region < us.count + un.count) (λ x p. omega (arith, p.0, all-seqs)) (ours ++ theirs) all_known)
+  pub items_owner : All (λ (x : Item). x.owner < us.count + un.count) (items_of order facts)
+  items_owner =
+      items_all (ours ++ theirs) order facts o (λ (x : Item). x.owner < us.count + un.count)
+      (all_imp Known (λ (x : Piece). x.region < us.count + un.count) (λ x p. omega (arith, p.0, all_seqs)) (ours ++ theirs) all_known)
 
   -- of one kind, by an order that ranks and numbers share
   module _ (kind : ℕ → Bool) (over : ℕ → ℕ → Bool)
@@ -274,16 +274,16 @@ module _ (us un : Lent) (e : us.count ≤ length us.seqs) (e' : un.count ≤ len
     away x y l = rw (ne_eqb x.region i (λ q. omega arith))
 
     -- a piece of i is one of the usable ones
-    from-ours : either ≡ (any_other meeting ours || across meeting ours theirs)
-    from-ours =
+    from_ours : either ≡ (any_other meeting ours || across meeting ours theirs)
+    from_ours =
         swept (ours ++ theirs) order facts o (λ (a b : ℕ). kind b && over (get_or ranks a 0) (get_or ranks b 0)) i
-        ∙ other-same (λ (x y : Piece). eqb x.region i && (kind y.region && over (get_or ranks x.region 0) (get_or ranks y.region 0)) && meets x.range y.range)
+        ∙ other_same (λ (x y : Piece). eqb x.region i && (kind y.region && over (get_or ranks x.region 0) (get_or ranks y.region 0)) && meets x.range y.range)
         meeting Known
         (λ x y p q. rw (agree x.region y.region p.0 q.0, p.1, q.1)) (ours ++ theirs) all_known
-        ∙ other-append meeting ours theirs
+        ∙ other_append meeting ours theirs
         ∙ rw (
-          other_none meeting Theirs (λ x y p q. away x y p.0) theirs no_piece theirs-all,
-          across-none Ours Theirs (λ (x y : Piece). meeting y x) (λ x y p q. away y x q.0) ours theirs ours-all theirs-all,
+          other_none meeting Theirs (λ x y p q. away x y p.0) theirs no_piece theirs_all,
+          across_none Ours Theirs (λ (x y : Piece). meeting y x) (λ x y p q. away y x q.0) ours theirs ours_all theirs_all,
           or-false (any_other meeting ours),
           or-false (across meeting ours theirs),
         )
@@ -294,36 +294,36 @@ module _ (us un : Lent) (e : us.count ≤ length us.seqs) (e' : un.count ≤ len
     none : (x y : Piece) → kind y.region ≡ false → meeting x y ≡ false
     none x y q = rw (q, and-false)
 
-    from-usable : ((w : ℕ) → w < us.count → kind w ≡ true) → ((w : ℕ) → us.count ≤ w → kind w ≡ false) → either ≡ any_other plain ours
-    from-usable t f =
-        from-ours
+    from_usable : ((w : ℕ) → w < us.count → kind w ≡ true) → ((w : ℕ) → us.count ≤ w → kind w ≡ false) → either ≡ any_other plain ours
+    from_usable t f =
+        from_ours
         ∙ rw (
-          other-same meeting plain Ours (λ x y p q. only x y (t y.region q.0)) ours ours-all,
-          across-none Ours Theirs meeting (λ x y p q. none x y (f y.region q.0)) ours theirs ours-all theirs-all,
+          other_same meeting plain Ours (λ x y p q. only x y (t y.region q.0)) ours ours_all,
+          across_none Ours Theirs meeting (λ x y p q. none x y (f y.region q.0)) ours theirs ours_all theirs_all,
           or-false,
         )
 
-    from-unavailable : ((w : ℕ) → w < us.count → kind w ≡ false) → ((w : ℕ) → us.count ≤ w → kind w ≡ true) → either ≡ across plain ours (pieces (regions_of un))
-    from-unavailable f t =
-        from-ours
-        ∙ rw (other_none meeting Ours (λ x y p q. none x y (f y.region q.0)) ours no_piece ours-all)
+    from_unavailable : ((w : ℕ) → w < us.count → kind w ≡ false) → ((w : ℕ) → us.count ≤ w → kind w ≡ true) → either ≡ across plain ours (pieces (regions_of un))
+    from_unavailable f t =
+        from_ours
+        ∙ rw (other_none meeting Ours (λ x y p q. none x y (f y.region q.0)) ours no_piece ours_all)
         (any_same (λ (x : Piece). any (meeting x) theirs) Ours (λ (x : Piece). any (plain x) (pieces (regions_of un)))
-        (λ x p. any_same (meeting x) Theirs (plain x) (λ y q. only x y (t y.region q.0)) theirs theirs-all
-        ∙ any-pieces (λ (s : ℕ) (z : Range). eqb x.region i && over x.seq s && meets x.range z) (regions_of un) us.count 0)
-        ours ours-all)
+        (λ x p. any_same (meeting x) Theirs (plain x) (λ y q. only x y (t y.region q.0)) theirs theirs_all
+        ∙ any_pieces (λ (s : ℕ) (z : Range). eqb x.region i && over x.seq s && meets x.range z) (regions_of un) us.count 0)
+        ours ours_all)
 
-  pub swept-overlapped : (i : ℕ) → i < us.count
+  pub swept_overlapped : (i : ℕ) → i < us.count
       → (behind (struck (usable_over ranks us.count) i) (walk false (items_of order facts)) || behind (struck (usable_over ranks us.count) i) (walk true (items_of order facts)))
       ≡ overlapped (regions_of us) i
   unfolding overlapped
-  swept-overlapped i h =
-      from-usable (λ (w : ℕ). ltb w us.count) leb r.order i h (λ w l. lt-ltb w us.count l) (λ w l. le-ltb w us.count l)
+  swept_overlapped i h =
+      from_usable (λ (w : ℕ). ltb w us.count) leb r.order i h (λ w l. lt-ltb w us.count l) (λ w l. le-ltb w us.count l)
 
-  pub swept-superseded : (i : ℕ) → i < us.count
+  pub swept_superseded : (i : ℕ) → i < us.count
       → (behind (struck (own_over ranks us.count) i) (walk false (items_of order facts)) || behind (struck (own_over ranks us.count) i) (walk true (items_of order facts)))
       ≡ superseded (regions_of us) (regions_of un) i
   unfolding superseded
-  swept-superseded i h =
-      from-unavailable (λ (w : ℕ). leb us.count w) ltb
-      (λ a b p q. below-too (get_or ranks b 0) (get_or ranks a 0) (get_or seqs b 0) (get_or seqs a 0) (r.order b a q p))
+  swept_superseded i h =
+      from_unavailable (λ (w : ℕ). leb us.count w) ltb
+      (λ a b p q. below_too (get_or ranks b 0) (get_or ranks a 0) (get_or seqs b 0) (get_or seqs a 0) (r.order b a q p))
       i h (λ w l. lt-leb us.count w l) (λ w l. le-leb us.count w l)

@@ -14,34 +14,34 @@ use Rattle.settle.specs.Inner.{Enough, Short, OwnShort, no_region}
 use Rattle.settle.specs.Naming.{name_at, Tagged, Listed, rivals, any_below, outdone}
 use Rattle.settle.specs.Regions.{Lent, Region, regions_of}
 use Rattle.settle.specs.Settle.{highest, renamed}
-use Rattle.numbers.proofs.Cases.{cases, by-eq, both_ways}
-use Rattle.numbers.proofs.Lists.{same_true, true_same, all-at, any-true, any_false, of-any, any-imp, any_at, any_of, any_append}
-use Rattle.numbers.proofs.Keeping.{keep_append, any-keep, any-kept, any-middle, keep-middle}
-use Rattle.settle.proofs.Naming.{rival-itself, rival-longer, below_of, below_true}
-use Rattle.settle.proofs.Reading.{length-of, region-of}
+use Rattle.numbers.proofs.Cases.{cases, by_eq, both_ways}
+use Rattle.numbers.proofs.Lists.{same_true, true_same, all_at, any_true, any_false, of_any, any_imp, any_at, any_of, any_append}
+use Rattle.numbers.proofs.Keeping.{keep_append, any_keep, any_kept, any_middle, keep_middle}
+use Rattle.settle.proofs.Naming.{rival_itself, rival_longer, below_of, below_true}
+use Rattle.settle.proofs.Reading.{length_of, region_of}
 
 -- ---- the highest number, in any order
 
-highest-middle : (xs : List Region) (y : Region) (ys : List Region) → highest (xs ++ (y ∷ ys)) ≡ max y.seq (highest (xs ++ ys))
+highest_middle : (xs : List Region) (y : Region) (ys : List Region) → highest (xs ++ (y ∷ ys)) ≡ max y.seq (highest (xs ++ ys))
 unfolding highest
-highest-middle [] y ys = refl
-highest-middle (x ∷ xs) y ys = let i = highest-middle xs y ys in omega arith
+highest_middle [] y ys = refl
+highest_middle (x ∷ xs) y ys = let i = highest_middle xs y ys in omega arith
 
 -- ---- the highest number, by two records or by another one
 
-above-none : (x : ℕ) (l : List Region) → All (λ (q : Region). ltb x q.seq ≡ false) l → highest l ≤ x
+above_none : (x : ℕ) (l : List Region) → All (λ (q : Region). ltb x q.seq ≡ false) l → highest l ≤ x
 unfolding highest
-above-none x [] a = omega arith
-above-none x (q ∷ l) a = let i = above-none x l a.1 in omega (arith, ltb-false x q.seq a.0)
+above_none x [] a = omega arith
+above_none x (q ∷ l) a = let i = above_none x l a.1 in omega (arith, ltb-false x q.seq a.0)
 
-not-above-same : (x : ℕ) (l : List Region) → All (λ (q : Region). ltb x q.seq ≡ false) l → any (λ (q : Region). eqb q.seq x) l ≡ any (λ (q : Region). leb x q.seq) l
+not_above_same : (x : ℕ) (l : List Region) → All (λ (q : Region). ltb x q.seq ≡ false) l → any (λ (q : Region). eqb q.seq x) l ≡ any (λ (q : Region). leb x q.seq) l
 unfolding any
-not-above-same x [] a = refl
-not-above-same x (q ∷ l) a =
+not_above_same x [] a = refl
+not_above_same x (q ∷ l) a =
     let h = ltb-false x q.seq a.0 in
-    by-eq q.seq x
+    by_eq q.seq x
     (λ e. simp (eq-eqb q.seq x e, le-leb x q.seq (omega arith)))
-    (λ d. simp (ne_eqb q.seq x d, lt-leb x q.seq (omega arith), not-above-same x l a.1))
+    (λ d. simp (ne_eqb q.seq x d, lt-leb x q.seq (omega arith), not_above_same x l a.1))
 
 module _ (xs : List Region) (r : Region) (ys : List Region) where
   abbrev beyond : Region → Bool
@@ -53,24 +53,24 @@ module _ (xs : List Region) (r : Region) (ys : List Region) where
   abbrev level : List Region → Bool
   level l = any (λ (q : Region). leb r.seq q.seq) l
 
-  or-two : (any beyond all || ltb 1 (length (keep (λ (q : Region). eqb q.seq (highest all)) all))) ≡ level (xs ++ ys)
+  or_two : (any beyond all || ltb 1 (length (keep (λ (q : Region). eqb q.seq (highest all)) all))) ≡ level (xs ++ ys)
   unfolding keep
-  or-two =
+  or_two =
       let none : ltb r.seq r.seq ≡ false = le-ltb r.seq r.seq (omega arith) in
       cases (any beyond (xs ++ ys))
-      (λ e. simp (any-middle beyond xs r ys, none, e)
-      (sym (of-any (λ (q : Region). leb r.seq q.seq) (xs ++ ys)
-      (any-imp (λ (q : Region). beyond q ≡ true) (λ (q : Region). leb r.seq q.seq ≡ true)
-      (λ q b. let h = ltb-true r.seq q.seq b in le-leb r.seq q.seq (omega arith)) (xs ++ ys) (any-true beyond (xs ++ ys) e)))))
+      (λ e. simp (any_middle beyond xs r ys, none, e)
+      (sym (of_any (λ (q : Region). leb r.seq q.seq) (xs ++ ys)
+      (any_imp (λ (q : Region). beyond q ≡ true) (λ (q : Region). leb r.seq q.seq ≡ true)
+      (λ q b. let h = ltb-true r.seq q.seq b in le-leb r.seq q.seq (omega arith)) (xs ++ ys) (any_true beyond (xs ++ ys) e)))))
       (λ e.
       let a = any_false beyond (xs ++ ys) e in
-      let h : highest all ≡ r.seq = (let m = above-none r.seq (xs ++ ys) a in highest-middle xs r ys ∙ omega arith) in
+      let h : highest all ≡ r.seq = (let m = above_none r.seq (xs ++ ys) a in highest_middle xs r ys ∙ omega arith) in
       let k : length (keep (λ (q : Region). eqb q.seq r.seq) all) ≡ suc (length (keep (λ (q : Region). eqb q.seq r.seq) (xs ++ ys))) =
-      keep-middle (λ (q : Region). eqb q.seq r.seq) xs r ys ∙ simp (eq-eqb r.seq r.seq refl) in
-      simp (any-middle beyond xs r ys, none, e, h, k)
+      keep_middle (λ (q : Region). eqb q.seq r.seq) xs r ys ∙ simp (eq-eqb r.seq r.seq refl) in
+      simp (any_middle beyond xs r ys, none, e, h, k)
       (leb-suc-suc 1 (length (keep (λ (q : Region). eqb q.seq r.seq) (xs ++ ys)))
-      ∙ any-kept (λ (q : Region). eqb q.seq r.seq) (xs ++ ys)
-      ∙ not-above-same r.seq (xs ++ ys) a))
+      ∙ any_kept (λ (q : Region). eqb q.seq r.seq) (xs ++ ys)
+      ∙ not_above_same r.seq (xs ++ ys) a))
 
 -- ---- the records in front of i, those behind it, and those of the other kind
 
@@ -100,14 +100,14 @@ module _ (us un : List Region) (i : ℕ) (h : i < length us) where
       ∙ keep_append its (take i us) (r ∷ rest)
       ∙ simp (true_same r.name r.name refl)
 
-  pub renamed-others : renamed us un r ≡ (any (alike r) (take i us) || (any (alike r) (drop (suc i) us) || any (λ (q : Region). named q && alike r q) un))
+  pub renamed_others : renamed us un r ≡ (any (alike r) (take i us) || (any (alike r) (drop (suc i) us) || any (λ (q : Region). named q && alike r q) un))
   unfolding renamed
-  renamed-others =
+  renamed_others =
       ap (λ (l : List Region). any (λ (q : Region). ltb r.seq q.seq) l || ltb 1 (length (keep (λ (q : Region). eqb q.seq (highest l)) l))) itself
-      ∙ or-two (keep its (take i us)) r (keep its rest)
+      ∙ or_two (keep its (take i us)) r (keep its rest)
       ∙ ap (any (λ (q : Region). leb r.seq q.seq)) (sym (keep_append its (take i us) rest))
-      ∙ any-keep its (λ (q : Region). leb r.seq q.seq) (take i us ++ rest)
-      ∙ simp (any_append (alike r) (take i us) rest, any_append (alike r) (drop (suc i) us) (keep named un), any-keep)
+      ∙ any_keep its (λ (q : Region). leb r.seq q.seq) (take i us ++ rest)
+      ∙ simp (any_append (alike r) (take i us) rest, any_append (alike r) (drop (suc i) us) (keep named un), any_keep)
 
 -- ---- the same by index
 
@@ -122,15 +122,15 @@ module _ {A : Type 0} (g : A → Bool) (d : A) where
   by_index : (f : ℕ → Bool) (l : List A) (n : ℕ) → length l ≡ n → ((j : ℕ) → j < n → f j ≡ g (get_or l j d)) → any_below f n ≡ any g l
   by_index f l n z e =
       both_ways (any_below f n) (any g l)
-      (λ t. let b = below_true f n t in of-any g l (any_of (λ (x : A). g x ≡ true) l b.0 d (rw z b.1) (sym (e b.0 b.1) ∙ b.2)))
-      (λ t. let a = any_at (λ (x : A). g x ≡ true) l d (any-true g l t) in let h : a.0 < n = rw z at a.1 in below_of f n a.0 h (e a.0 h ∙ a.2))
+      (λ t. let b = below_true f n t in of_any g l (any_of (λ (x : A). g x ≡ true) l b.0 d (rw z b.1) (sym (e b.0 b.1) ∙ b.2)))
+      (λ t. let a = any_at (λ (x : A). g x ≡ true) l d (any_true g l t) in let h : a.0 < n = rw z at a.1 in below_of f n a.0 h (e a.0 h ∙ a.2))
 
   -- every element but the one at i
-  pub others-by-index :
+  pub others_by_index :
       (f : ℕ → Bool) (l : List A) (n i : ℕ) → length l ≡ n → i < n → f i ≡ false → ((j : ℕ) → j < n → (j ≡ i → ⊥) → f j ≡ g (get_or l j d))
       → any_below f n ≡ (any g (take i l) || any g (drop (suc i) l))
   unfolding any_below
-  others-by-index f l n i z h none e =
+  others_by_index f l n i z h none e =
       let front : any_below f i ≡ any g (take i l) =
       by_index f (take i l) i (length-take-le i l (omega arith)) (λ j k. e j (omega arith) (λ q. omega arith) ∙ ap g (sym (get_or-take i l j d k))) in
       let back : any_below (λ (j : ℕ). f (suc i + j)) (n - suc i) ≡ any g (drop (suc i) l) =
@@ -142,9 +142,9 @@ module _ {A : Type 0} (g : A → Bool) (d : A) where
 -- ---- a record by the lists and as a region
 
 module _ (seqs lens names : List ℕ) (skip seq : ℕ) (name : List ℕ) (j : ℕ) (other : j ≡ skip → ⊥) where
-  rival-is : length (name_at lens names j) ≡ get_or lens j 0 → rivals seqs lens names skip seq name j ≡ (same (name_at lens names j) name && leb seq (get_or seqs j 0))
+  rival_is : length (name_at lens names j) ≡ get_or lens j 0 → rivals seqs lens names skip seq name j ≡ (same (name_at lens names j) name && leb seq (get_or seqs j 0))
   unfolding rivals
-  rival-is e =
+  rival_is e =
       cases (same (name_at lens names j) name)
       (λ t.
       let q : get_or lens j 0 ≡ length name = sym e ∙ ap length (same_true (name_at lens names j) name t) in
@@ -153,20 +153,20 @@ module _ (seqs lens names : List ℕ) (skip seq : ℕ) (name : List ℕ) (j : �
 
 module _ (g : Lent) (enough : Enough g) where
   pub listed : (tags : List ℕ) → g.count ≤ length tags → Tagged g.count g.lens g.names tags → Listed g.count g.seqs g.lens g.names tags
-  listed tags h t = record { few = enough.few; seqs-in = enough.seqs; lens-in = enough.lens; names_in = enough.names; tags-in = h; tagged = t }
+  listed tags h t = record { few = enough.few; seqs_in = enough.seqs; lens_in = enough.lens; names_in = enough.names; tags_in = h; tagged = t }
 
   module _ (j : ℕ) (h : j < g.count) where
     at_len : (P : ℕ → Type 0) → All P (take g.count g.lens) → P (get_or g.lens j 0)
     at_len P a =
-        rw get_or-take at (all-at P (take g.count g.lens) j 0 a (rw length-take (omega (arith, enough.lens))))
+        rw get_or-take at (all_at P (take g.count g.lens) j 0 a (rw length-take (omega (arith, enough.lens))))
 
-    pub short-at : Short g → get_or g.lens j 0 ≤ 24
-    short-at a = at_len (λ (n : ℕ). n ≤ 24) a
+    pub short_at : Short g → get_or g.lens j 0 ≤ 24
+    short_at a = at_len (λ (n : ℕ). n ≤ 24) a
 
-    long-at : get_or g.lens j 0 ≤ 24 → length (name_at g.lens g.names j) ≡ get_or g.lens j 0
-    long-at s = simp (length-take, length-drop) (omega (arith, enough.names))
+    long_at : get_or g.lens j 0 ≤ 24 → length (name_at g.lens g.names j) ≡ get_or g.lens j 0
+    long_at s = simp (length-take, length-drop) (omega (arith, enough.names))
 
-module _ (us un : Lent) (enough : Enough us) (own-enough : Enough un) (short : Short us) (own-short : OwnShort un) (i : ℕ) (h : i < us.count) where
+module _ (us un : Lent) (enough : Enough us) (own-enough : Enough un) (short : Short us) (own_short : OwnShort un) (i : ℕ) (h : i < us.count) where
   abbrev it : Region
   it = get_or (regions_of us) i no_region
 
@@ -180,37 +180,37 @@ module _ (us un : Lent) (enough : Enough us) (own-enough : Enough un) (short : S
   abbrev seen : Lent → ℕ → ℕ → Bool
   seen g skip j = rivals g.seqs g.lens g.names skip seq name j
 
-  short-us : (j : ℕ) → j < us.count → get_or us.lens j 0 ≤ 24
-  short-us j k = short-at us enough j k short
+  short_us : (j : ℕ) → j < us.count → get_or us.lens j 0 ≤ 24
+  short_us j k = short_at us enough j k short
 
   near : any_below (seen us i) us.count ≡ (any (alike it) (take i (regions_of us)) || any (alike it) (drop (suc i) (regions_of us)))
   near =
-      others-by-index (alike it) no_region (seen us i) (regions_of us) us.count i (length-of us) h
-      (rival-itself us.seqs us.lens us.names i seq name i refl)
+      others_by_index (alike it) no_region (seen us i) (regions_of us) us.count i (length_of us) h
+      (rival_itself us.seqs us.lens us.names i seq name i refl)
       (λ j k d.
-      rival-is us.seqs us.lens us.names i seq name j d (long-at us enough j k (short-us j k))
-      ∙ rw (region-of us j k, region-of us i h))
+      rival_is us.seqs us.lens us.names i seq name j d (long_at us enough j k (short_us j k))
+      ∙ rw (region_of us j k, region_of us i h))
 
   abbrev alike_too : Region → Bool
   alike_too q = named q && alike it q
 
   far : any_below (seen un un.count) un.count ≡ any alike_too (regions_of un)
   far =
-      by_index alike_too no_region (seen un un.count) (regions_of un) un.count (length-of un)
+      by_index alike_too no_region (seen un un.count) (regions_of un) un.count (length_of un)
       (λ j k.
       ⊎_elim
       (λ s.
-      rival-is un.seqs un.lens un.names un.count seq name j (λ q. omega arith) (long-at un own-enough j k s)
-      ∙ rw (region-of un j k, region-of us i h) (simp (ne_eqb (get_or un.lens j 0) 255 (λ q. omega arith))))
+      rival_is un.seqs un.lens un.names un.count seq name j (λ q. omega arith) (long_at un own-enough j k s)
+      ∙ rw (region_of un j k, region_of us i h) (simp (ne_eqb (get_or un.lens j 0) 255 (λ q. omega arith))))
       (λ s.
-      rival-longer un.seqs un.lens un.names un.count seq name j (λ q. omega (arith, long-at us enough i h (short-us i h), short-us i h))
-      ∙ rw (region-of un j k) (simp (eq-eqb (get_or un.lens j 0) 255 s)))
-      (at_len un own-enough j k (λ (n : ℕ). (n ≤ 24) ⊎ (n ≡ 255)) own-short))
+      rival_longer un.seqs un.lens un.names un.count seq name j (λ q. omega (arith, long_at us enough i h (short_us i h), short_us i h))
+      ∙ rw (region_of un j k) (simp (eq-eqb (get_or un.lens j 0) 255 s)))
+      (at_len un own-enough j k (λ (n : ℕ). (n ≤ 24) ⊎ (n ≡ 255)) own_short))
 
   -- what the code finds
-  pub renamed-is :
+  pub renamed_is :
       outdone i us.count us.seqs us.lens us.names un.count un.seqs un.lens un.names
       ≡ renamed (regions_of us) (regions_of un) (get_or (regions_of us) i no_region)
-  renamed-is =
+  renamed_is =
       rw (near, far) (or_assoc (any (alike it) (take i (regions_of us))) (any (alike it) (drop (suc i) (regions_of us))) (any alike_too (regions_of un)))
-      ∙ sym (renamed-others (regions_of us) (regions_of un) i (rw (length-of us) h))
+      ∙ sym (renamed_others (regions_of us) (regions_of un) i (rw (length_of us) h))

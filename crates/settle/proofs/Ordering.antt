@@ -12,21 +12,21 @@ use Rattle.settle.specs.Inner.{Sized}
 use Rattle.settle.specs.Laying.{Laid, Ordered, no_piece}
 use Rattle.settle.specs.Regions.{Piece, piece, pieces, pieces_from, regions}
 use Rattle.sort.specs.Sort.{Sorted, sorted}
-use Rattle.numbers.proofs.Pairs.{even-list, length_pairs, pairs-append, pairs-take, pairs-drop}
+use Rattle.numbers.proofs.Pairs.{even_list, length_pairs, pairs_append, pairs_take, pairs_drop}
 use Rattle.settle.proofs.Laying.{laid_more}
-use Rattle.sort.proofs.Laws.{sorted-pairs, sorted-length}
+use Rattle.sort.proofs.Laws.{sorted_pairs, sorted_length}
 
 -- as many pieces as the records have ranges
-pub pieces-length : (n : ℕ) (seqs counts : List ℕ) (rs : List Range) (lens names : List ℕ) (i : ℕ) → n ≤ length counts → sum (take n counts) ≤ length rs
+pub pieces_length : (n : ℕ) (seqs counts : List ℕ) (rs : List Range) (lens names : List ℕ) (i : ℕ) → n ≤ length counts → sum (take n counts) ≤ length rs
     → length (pieces_from i (regions n seqs counts rs lens names)) ≡ sum (take n counts)
 unfolding pieces_from regions sum
-pieces-length zero seqs counts rs lens names i h b = refl
-pieces-length (suc n) seqs [] rs lens names i h b = absurd (omega arith)
-pieces-length (suc n) seqs (c ∷ counts) rs lens names i h b =
+pieces_length zero seqs counts rs lens names i h b = refl
+pieces_length (suc n) seqs [] rs lens names i h b = absurd (omega arith)
+pieces_length (suc n) seqs (c ∷ counts) rs lens names i h b =
     let d = length-drop c rs in
     let t = length-take-le c rs (omega arith) in
     let m = length-map (take c rs) (piece i (get_or seqs 0 0)) in
-    let r = pieces-length n (drop 1 seqs) counts (drop c rs) (drop 1 lens) (drop 24 names) (suc i) (omega arith) (omega arith) in
+    let r = pieces_length n (drop 1 seqs) counts (drop c rs) (drop 1 lens) (drop 24 names) (suc i) (omega arith) (omega arith) in
     length-append (map (piece i (get_or seqs 0 0)) (take c rs)) (pieces_from (suc i) (regions n (drop 1 seqs) counts (drop c rs) (drop 1 lens) (drop 24 names))) ∙ omega arith
 
 -- scratch after the sort of its first half
@@ -37,75 +37,75 @@ module _ (ps : List Piece) (n : ℕ) (s₀ s ys : List ℕ) (r : ℕ) (e : lengt
   part_length : length (take (2 * n - 0) s) ≡ 2 * n
   part_length = ap length front ∙ length-take-le (2 * n) s (omega (arith, g.size))
 
-  part-pairs : pairs (take (2 * n - 0) s) ≡ take n (pairs s)
-  part-pairs = ap pairs front ∙ pairs-take n s
+  part_pairs : pairs (take (2 * n - 0) s) ≡ take n (pairs s)
+  part_pairs = ap pairs front ∙ pairs_take n s
 
   sorted_front : pairs ys ≡ sorted (take n (pairs s))
-  sorted_front = sorted-pairs (take (2 * n - 0) s) ys r h (even-list (take (2 * n - 0) s) (let l = part_length in omega arith)) ∙ ap sorted part-pairs
+  sorted_front = sorted_pairs (take (2 * n - 0) s) ys r h (even_list (take (2 * n - 0) s) (let l = part_length in omega arith)) ∙ ap sorted part_pairs
 
-  pairs-half : length (take n (pairs s)) ≡ n
-  pairs-half = let l = length_pairs s in length-take-le n (pairs s) (omega (arith, g.size))
+  pairs_half : length (take n (pairs s)) ≡ n
+  pairs_half = let l = length_pairs s in length-take-le n (pairs s) (omega (arith, g.size))
 
   front_length : length (pairs ys) ≡ n
-  front_length = ap length sorted_front ∙ sorted-length (take n (pairs s)) ∙ pairs-half
+  front_length = ap length sorted_front ∙ sorted_length (take n (pairs s)) ∙ pairs_half
 
   module _ (even : length ys ≡ length (take (2 * n - 0) s)) where
     whole : pairs (ys ++ drop (2 * n - 0) s) ≡ pairs ys ++ drop n (pairs s)
     whole =
         let q : 2 * n - 0 ≡ 2 * n = omega arith in
-        pairs-append ys (drop (2 * n - 0) s) (let l = part_length in omega arith)
-        ∙ ap (λ (t : List Range). pairs ys ++ t) (ap (λ (m : ℕ). pairs (drop m s)) q ∙ pairs-drop n s)
+        pairs_append ys (drop (2 * n - 0) s) (let l = part_length in omega arith)
+        ∙ ap (λ (t : List Range). pairs ys ++ t) (ap (λ (m : ℕ). pairs (drop m s)) q ∙ pairs_drop n s)
 
     ordered : Ordered ps (take n (pairs (ys ++ drop (2 * n - 0) s))) (drop n (pairs (ys ++ drop (2 * n - 0) s)))
     ordered =
         let l = length_pairs s in
         record {
           starts = take n (pairs s);
-          size = pairs-half ∙ sym e;
-          start = λ k i. get_or-take n (pairs s) k blank (omega arith) ∙ zero-starts k i;
+          size = pairs_half ∙ sym e;
+          start = λ k i. get_or-take n (pairs s) k blank (omega arith) ∙ zero_starts k i;
           sort = ap (take n) whole ∙ take_at (pairs ys) (drop n (pairs s)) n front_length ∙ sorted_front;
           fact = λ k i. ap (λ (t : List Range). get_or (drop n t) k blank) whole
               ∙ ap (λ (t : List Range). get_or t k blank) (drop_at (pairs ys) (drop n (pairs s)) n front_length)
-              ∙ get_or-drop n (pairs s) k blank ∙ zero-ends k i;
+              ∙ get_or-drop n (pairs s) k blank ∙ zero_ends k i;
         }
       where
         none : (k : ℕ) → 0 + k ≡ k
         none k = omega arith
 
-        zero-starts : (k : ℕ) → k < length ps → get_or (pairs s) k blank ≡ range (get_or ps k no_piece).range.offset k
-        zero-starts k i = ap (λ (j : ℕ). get_or (pairs s) j blank) (sym (none k)) ∙ g.starts k i ∙ ap (range (get_or ps k no_piece).range.offset) (none k)
+        zero_starts : (k : ℕ) → k < length ps → get_or (pairs s) k blank ≡ range (get_or ps k no_piece).range.offset k
+        zero_starts k i = ap (λ (j : ℕ). get_or (pairs s) j blank) (sym (none k)) ∙ g.starts k i ∙ ap (range (get_or ps k no_piece).range.offset) (none k)
 
-        zero-ends : (k : ℕ) → k < length ps → get_or (pairs s) (n + k) blank ≡ range (end_of (get_or ps k no_piece).range) (get_or ps k no_piece).region
-        zero-ends k i = ap (λ (j : ℕ). get_or (pairs s) (n + j) blank) (sym (none k)) ∙ g.ends k i
+        zero_ends : (k : ℕ) → k < length ps → get_or (pairs s) (n + k) blank ≡ range (end_of (get_or ps k no_piece).range) (get_or ps k no_piece).region
+        zero_ends k i = ap (λ (j : ℕ). get_or (pairs s) (n + j) blank) (sym (none k)) ∙ g.ends k i
 
 -- both kinds, one behind the other
 module _ (u v first n : ℕ) (counts rs own own-rs : List ℕ) (z : Sized u counts rs) (z' : Sized v own own-rs)
     (f : first ≡ sum (take u counts)) (m : n ≡ first + sum (take v own)) where
-  pub lay-first : (s₀ : List ℕ) → length s₀ ≡ 4 * n → (u ≤ length counts) × (u + 0 ≤ 2048) × (sum (take u counts) ≤ length (pairs rs)) × (0 + sum (take u counts) ≤ n) × (n + n ≤ length (pairs s₀))
-  lay-first s₀ e = let l = length_pairs s₀ in (z.counts-in, omega (arith, z.few), z.ranges_in, omega arith, omega arith)
+  pub lay_first : (s₀ : List ℕ) → length s₀ ≡ 4 * n → (u ≤ length counts) × (u + 0 ≤ 2048) × (sum (take u counts) ≤ length (pairs rs)) × (0 + sum (take u counts) ≤ n) × (n + n ≤ length (pairs s₀))
+  lay_first s₀ e = let l = length_pairs s₀ in (z.counts_in, omega (arith, z.few), z.ranges_in, omega arith, omega arith)
 
-  pub lay-second : (s₁ : List ℕ) → length s₁ ≡ 4 * n → (v ≤ length own) × (v + u ≤ 2048) × (sum (take v own) ≤ length (pairs own-rs)) × (first + sum (take v own) ≤ n) × (n + n ≤ length (pairs s₁))
-  lay-second s₁ e = let l = length_pairs s₁ in (z'.counts-in, omega (arith, z.few, z'.few), z'.ranges_in, omega arith, omega arith)
+  pub lay_second : (s₁ : List ℕ) → length s₁ ≡ 4 * n → (v ≤ length own) × (v + u ≤ 2048) × (sum (take v own) ≤ length (pairs own-rs)) × (first + sum (take v own) ≤ n) × (n + n ≤ length (pairs s₁))
+  lay_second s₁ e = let l = length_pairs s₁ in (z'.counts_in, omega (arith, z.few, z'.few), z'.ranges_in, omega arith, omega arith)
 
-  module _ (seqs lens names own-seqs own-lens own-names : List ℕ) where
+  module _ (seqs lens names own-seqs own-lens own_names : List ℕ) where
     abbrev ours : List Piece
     ours = pieces (regions u seqs counts (pairs rs) lens names)
 
     abbrev theirs : List Piece
-    theirs = pieces_from u (regions v own-seqs own (pairs own-rs) own-lens own-names)
+    theirs = pieces_from u (regions v own-seqs own (pairs own-rs) own-lens own_names)
 
     laid_both : (s₀ s₁ s₂ : List ℕ) → Laid ours 0 n s₀ s₁ → Laid theirs first n s₁ s₂ → Laid (ours ++ theirs) 0 n s₀ s₂
     laid_both s₀ s₁ s₂ a b =
-        let p = pieces-length u seqs counts (pairs rs) lens names 0 z.counts-in z.ranges_in in
+        let p = pieces_length u seqs counts (pairs rs) lens names 0 z.counts_in z.ranges_in in
         laid_more ours theirs 0 first n s₀ s₁ s₂ (omega arith) a b
 
-    both-length : length (ours ++ theirs) ≡ n
-    both-length =
-        let p = pieces-length u seqs counts (pairs rs) lens names 0 z.counts-in z.ranges_in in
-        let q = pieces-length v own-seqs own (pairs own-rs) own-lens own-names u z'.counts-in z'.ranges_in in
+    both_length : length (ours ++ theirs) ≡ n
+    both_length =
+        let p = pieces_length u seqs counts (pairs rs) lens names 0 z.counts_in z.ranges_in in
+        let q = pieces_length v own-seqs own (pairs own-rs) own-lens own_names u z'.counts_in z'.ranges_in in
         length-append ours theirs ∙ omega arith
 
     pub both_ordered : (s₀ s₁ s₂ ys : List ℕ) (r : ℕ) → length s₀ ≡ 4 * n → Laid ours 0 n s₀ s₁ → Laid theirs first n s₁ s₂
         → Sorted (take (2 * n - 0) s₂) ys r → length ys ≡ length (take (2 * n - 0) s₂)
         → Ordered (ours ++ theirs) (take n (pairs (ys ++ drop (2 * n - 0) s₂))) (drop n (pairs (ys ++ drop (2 * n - 0) s₂)))
-    both_ordered s₀ s₁ s₂ ys r e a b h d = ordered (ours ++ theirs) n s₀ s₂ ys r both-length e (laid_both s₀ s₁ s₂ a b) h d
+    both_ordered s₀ s₁ s₂ ys r e a b h d = ordered (ours ++ theirs) n s₀ s₂ ys r both_length e (laid_both s₀ s₁ s₂ a b) h d

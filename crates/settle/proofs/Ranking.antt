@@ -13,12 +13,12 @@ use Rattle.numbers.specs.Pairs.{is_odd, pairs}
 use Rattle.numbers.specs.Range.{Range, range, blank}
 use Rattle.settle.specs.Ranking.{Keyed, Keys, below, Ranked, Ranks}
 use Rattle.sort.specs.Sort.{Ascending, Sorted, sorted}
-use Rattle.numbers.proofs.Cases.{by-eq, by-lt}
-use Rattle.numbers.proofs.Lists.{all-at, all_of, all-imp, any_of, any_at, any-imp, stored-new, stored-old}
-use Rattle.numbers.proofs.Order.{in-offset}
-use Rattle.numbers.proofs.Pairs.{even-list, length_pairs, pairs-take, same-pairs}
-use Rattle.numbers.proofs.Keeping.{keep-front, keep-most, keep-less, keep_all}
-use Rattle.sort.proofs.Laws.{ascending-at, all-sorted, any-sorted, sorted-ascending, sorted-length, sorted-pairs}
+use Rattle.numbers.proofs.Cases.{by_eq, by_lt}
+use Rattle.numbers.proofs.Lists.{all_at, all_of, all_imp, any_of, any_at, any_imp, stored_new, stored_old}
+use Rattle.numbers.proofs.Order.{in_offset}
+use Rattle.numbers.proofs.Pairs.{even_list, length_pairs, pairs_take, same_pairs}
+use Rattle.numbers.proofs.Keeping.{keep_front, keep_most, keep_less, keep_all}
+use Rattle.sort.proofs.Laws.{ascending_at, all_sorted, any_sorted, sorted_ascending, sorted_length, sorted_pairs}
 
 -- ---- the keys, one by one
 
@@ -30,31 +30,31 @@ pub record Keying (seqs : List ℕ) (count first : ℕ) (s₀ s : List ℕ) (i :
   pub new : (j : ℕ) → j < i → get_or (pairs s) (first + j) blank ≡ range (get_or seqs j 0) (first + j)
   pub old : (j : ℕ) → j < first → get_or (pairs s) j blank ≡ get_or (pairs s₀) j blank
 
-pub keying-begins : (seqs : List ℕ) (count first : ℕ) (s : List ℕ) → count ≤ length seqs → first + count ≤ length (pairs s) → Keying seqs count first s s 0
-keying-begins seqs count first s e r =
+pub keying_begins : (seqs : List ℕ) (count first : ℕ) (s : List ℕ) → count ≤ length seqs → first + count ≤ length (pairs s) → Keying seqs count first s s 0
+keying_begins seqs count first s e r =
     record { enough = e; room = r; upto = omega arith; size = refl; new = λ j h. absurd (omega arith); old = λ j h. refl }
 
 module _ {seqs : List ℕ} {count first : ℕ} {s₀ s : List ℕ} {i : ℕ} (g : Keying seqs count first s₀ s i) where
-  pub keying-in : i < count → first + i < length (pairs s)
-  keying-in h = let e = same-pairs s s₀ g.size in omega (arith, g.room)
+  pub keying_in : i < count → first + i < length (pairs s)
+  keying_in h = let e = same_pairs s s₀ g.size in omega (arith, g.room)
 
-  pub keying-on : (s' : List ℕ) → i < count → pairs s' ≡ set (pairs s) (first + i) (range (get_or seqs i 0) (first + i)) → length s' ≡ length s → Keying seqs count first s₀ s' (i + 1)
-  keying-on s' h e l =
+  pub keying_on : (s' : List ℕ) → i < count → pairs s' ≡ set (pairs s) (first + i) (range (get_or seqs i 0) (first + i)) → length s' ≡ length s → Keying seqs count first s₀ s' (i + 1)
+  keying_on s' h e l =
       record {
         enough = g.enough;
         room = g.room;
         upto = omega arith;
         size = l ∙ g.size;
-        new = λ j b. by-eq j i
-            (λ q. stored-new (pairs s) (pairs s') (first + i) (first + j) (range (get_or seqs i 0) (first + i)) blank e (keying-in h) (omega arith)
+        new = λ j b. by_eq j i
+            (λ q. stored_new (pairs s) (pairs s') (first + i) (first + j) (range (get_or seqs i 0) (first + i)) blank e (keying_in h) (omega arith)
             ∙ ap (λ (k : ℕ). range (get_or seqs k 0) (first + k)) (sym q))
-            (λ n. stored-old (pairs s) (pairs s') (first + i) (first + j) (range (get_or seqs i 0) (first + i)) blank e (λ q. n (omega arith))
+            (λ n. stored_old (pairs s) (pairs s') (first + i) (first + j) (range (get_or seqs i 0) (first + i)) blank e (λ q. n (omega arith))
             ∙ g.new j (omega (arith, n)));
-        old = λ j b. stored-old (pairs s) (pairs s') (first + i) j (range (get_or seqs i 0) (first + i)) blank e (λ q. omega arith) ∙ g.old j b;
+        old = λ j b. stored_old (pairs s) (pairs s') (first + i) j (range (get_or seqs i 0) (first + i)) blank e (λ q. omega arith) ∙ g.old j b;
       }
 
-  pub keying-ends : count ≤ i → Keyed (take count seqs) first s₀ s
-  keying-ends h =
+  pub keying_ends : count ≤ i → Keyed (take count seqs) first s₀ s
+  keying_ends h =
       let u = g.upto in
       let t : length (take count seqs) ≡ count = length-take-le count seqs g.enough in
       record {
@@ -74,8 +74,8 @@ pub record Walking (keys : List Range) (m : ℕ) (ranks : List ℕ) (rank t : �
   pub equal : (s : ℕ) → rank ≤ s → s < t → (get_or keys s blank).offset ≡ (get_or keys rank blank).offset
   pub ranked : (s : ℕ) → s < t → get_or ranks (get_or keys s blank).len 0 ≡ below keys (get_or keys s blank).offset
 
-pub walking-begins : (keys : List Range) (ranks : List ℕ) → Walking keys (length ranks) ranks 0 0
-walking-begins keys ranks =
+pub walking_begins : (keys : List Range) (ranks : List ℕ) → Walking keys (length ranks) ranks 0 0
+walking_begins keys ranks =
     record {
       size = refl;
       upto = omega arith;
@@ -91,17 +91,17 @@ module _ {keys : List Range} {ranks : List ℕ} {m rank t : ℕ} (o : Ascending 
 
   rising : (s r : ℕ) → s ≤ r → r < length keys → number s ≤ number r
   rising s r h i =
-      by-eq s r (λ e. let a = ap number e in omega arith)
-      (λ n. in-offset (get_or keys s blank) (get_or keys r blank) (ascending-at keys s r o (omega (arith, n)) i))
+      by_eq s r (λ e. let a = ap number e in omega arith)
+      (λ n. in_offset (get_or keys s blank) (get_or keys r blank) (ascending_at keys s r o (omega (arith, n)) i))
 
   steady : (s r : ℕ) → s < length keys → r < length keys → (get_or keys s blank).len ≡ (get_or keys r blank).len → number s ≡ number r
   steady s r a b =
-      all-at (λ (q : Range). (get_or keys s blank).len ≡ q.len → number s ≡ q.offset) keys r blank
-      (all-at (λ (p : Range). All (λ (q : Range). p.len ≡ q.len → p.offset ≡ q.offset) keys) keys s blank k.steady a) b
+      all_at (λ (q : Range). (get_or keys s blank).len ≡ q.len → number s ≡ q.offset) keys r blank
+      (all_at (λ (p : Range). All (λ (q : Range). p.len ≡ q.len → p.offset ≡ q.offset) keys) keys s blank k.steady a) b
 
   module _ (h : t < length keys) where
-    pub walking-place : (p : Range) → p ≡ get_or keys t blank → p.len < length ranks
-    walking-place p e = let q = all-at (λ (q : Range). q.len < m) keys t blank k.places h in let f = ap (λ (q : Range). q.len) e in omega (arith, g.size)
+    pub walking_place : (p : Range) → p ≡ get_or keys t blank → p.len < length ranks
+    walking_place p e = let q = all_at (λ (q : Range). q.len < m) keys t blank k.places h in let f = ap (λ (q : Range). q.len) e in omega (arith, g.size)
 
     -- the rank that the key t gets, whichever it is
     on : (r : ℕ) → r ≤ t
@@ -117,40 +117,40 @@ module _ {keys : List Range} {ranks : List ℕ} {m rank t : ℕ} (o : Ascending 
           behind = omega arith;
           lower = lo;
           equal = eq;
-          ranked = λ s i. by-eq (get_or keys s blank).len (get_or keys t blank).len
-              (λ e. stored-new ranks (set ranks (get_or keys t blank).len r) (get_or keys t blank).len (get_or keys s blank).len r 0 refl (walking-place (get_or keys t blank) refl) e
+          ranked = λ s i. by_eq (get_or keys s blank).len (get_or keys t blank).len
+              (λ e. stored_new ranks (set ranks (get_or keys t blank).len r) (get_or keys t blank).len (get_or keys s blank).len r 0 refl (walking_place (get_or keys t blank) refl) e
               ∙ sym count ∙ ap (below keys) (steady t s h (omega arith) (sym e)))
-              (λ n. stored-old ranks (set ranks (get_or keys t blank).len r) (get_or keys t blank).len (get_or keys s blank).len r 0 refl n
-              ∙ g.ranked s (by-eq s t (λ e. absurd (n (ap (λ (j : ℕ). (get_or keys j blank).len) e))) (λ d. omega (arith, d))));
+              (λ n. stored_old ranks (set ranks (get_or keys t blank).len r) (get_or keys t blank).len (get_or keys s blank).len r 0 refl n
+              ∙ g.ranked s (by_eq s t (λ e. absurd (n (ap (λ (j : ℕ). (get_or keys j blank).len) e))) (λ d. omega (arith, d))));
         }
       where
         counted : below keys (number t) ≡ r
         counted =
             let e : number t ≡ number r = eq t b (omega arith) in
-            keep-front (λ (p : Range). ltb p.offset (number t)) keys blank r (omega arith)
+            keep_front (λ (p : Range). ltb p.offset (number t)) keys blank r (omega arith)
             (λ s i. let l = lo s i in lt-ltb (number s) (number t) (omega arith))
             (λ s i j. let l = rising r s i j in le-ltb (number s) (number t) (omega arith))
 
     -- the key has the number of those before it, or a higher one
     same_number : number rank ≡ number t → Walking keys m (set ranks (get_or keys t blank).len rank) rank (t + 1)
-    same_number e = on rank g.behind g.lower (λ s i j. by-eq s t (λ q. ap number q ∙ sym e) (λ n. g.equal s i (omega (arith, n))))
+    same_number e = on rank g.behind g.lower (λ s i j. by_eq s t (λ q. ap number q ∙ sym e) (λ n. g.equal s i (omega (arith, n))))
 
-    next-number : (number rank ≡ number t → ⊥) → Walking keys m (set ranks (get_or keys t blank).len t) t (t + 1)
-    next-number n =
+    next_number : (number rank ≡ number t → ⊥) → Walking keys m (set ranks (get_or keys t blank).len t) t (t + 1)
+    next_number n =
         let w : number rank < number t = let l = rising rank t g.behind h in omega (arith, n) in
         on t (omega arith)
-        (λ s i. by-lt s rank (λ a. let l = g.lower s a in omega arith) (λ a. let e = g.equal s a i in omega arith))
+        (λ s i. by_lt s rank (λ a. let l = g.lower s a in omega arith) (λ a. let e = g.equal s a i in omega arith))
         (λ s i j. ap number (omega arith))
 
     module _ (p q : Range) (e : p ≡ get_or keys t blank) (f : q ≡ get_or keys rank blank) where
-      pub walking-same : (r : ℕ) → r ≡ rank → q.offset ≡ p.offset → Walking keys m (set ranks p.len r) r (t + 1)
-      walking-same r d o = rw (d, e) (same_number (ap (λ (x : Range). x.offset) (sym f) ∙ o ∙ ap (λ (x : Range). x.offset) e))
+      pub walking_same : (r : ℕ) → r ≡ rank → q.offset ≡ p.offset → Walking keys m (set ranks p.len r) r (t + 1)
+      walking_same r d o = rw (d, e) (same_number (ap (λ (x : Range). x.offset) (sym f) ∙ o ∙ ap (λ (x : Range). x.offset) e))
 
-      pub walking-next : (r : ℕ) → r ≡ t → (q.offset ≡ p.offset → ⊥) → Walking keys m (set ranks p.len r) r (t + 1)
-      walking-next r d n = rw (d, e) (next-number (λ o. n (ap (λ (x : Range). x.offset) f ∙ o ∙ ap (λ (x : Range). x.offset) (sym e))))
+      pub walking_next : (r : ℕ) → r ≡ t → (q.offset ≡ p.offset → ⊥) → Walking keys m (set ranks p.len r) r (t + 1)
+      walking_next r d n = rw (d, e) (next_number (λ o. n (ap (λ (x : Range). x.offset) f ∙ o ∙ ap (λ (x : Range). x.offset) (sym e))))
 
-  pub walking-ends : length keys ≤ t → Ranked keys ranks
-  walking-ends h = record { rank = λ s i. g.ranked s (omega arith) }
+  pub walking_ends : length keys ≤ t → Ranked keys ranks
+  walking_ends h = record { rank = λ s i. g.ranked s (omega arith) }
 
 -- ---- ranks stand as the numbers do
 
@@ -158,34 +158,34 @@ abbrev Numbered : List Range → ℕ → Type 0
 Numbered keys s = Any (λ (p : Range). p.offset ≡ s) keys
 
 module _ (keys : List Range) where
-  below-least : (s r : ℕ) → s ≤ r → below keys s ≤ below keys r
+  below_least : (s r : ℕ) → s ≤ r → below keys s ≤ below keys r
   unfolding below
-  below-least s r h =
-      keep-most (λ (p : Range). ltb p.offset s) (λ (p : Range). ltb p.offset r)
+  below_least s r h =
+      keep_most (λ (p : Range). ltb p.offset s) (λ (p : Range). ltb p.offset r)
       (λ p e. let l = ltb-true p.offset s e in lt-ltb p.offset r (omega arith)) keys
 
   below_less : (s r : ℕ) → s < r → Numbered keys s → below keys s < below keys r
   unfolding below
   below_less s r h a =
-      keep-less (λ (p : Range). ltb p.offset s) (λ (p : Range). ltb p.offset r)
+      keep_less (λ (p : Range). ltb p.offset s) (λ (p : Range). ltb p.offset r)
       (λ p e. let l = ltb-true p.offset s e in lt-ltb p.offset r (omega arith)) keys
-      (any-imp (λ (p : Range). p.offset ≡ s) (λ (p : Range). (ltb p.offset s ≡ false) × (ltb p.offset r ≡ true))
+      (any_imp (λ (p : Range). p.offset ≡ s) (λ (p : Range). (ltb p.offset s ≡ false) × (ltb p.offset r ≡ true))
       (λ p e. (le-ltb p.offset s (omega arith), lt-ltb p.offset r (omega arith))) keys a)
 
-  below-small : (s : ℕ) → Numbered keys s → below keys s < length keys
+  below_small : (s : ℕ) → Numbered keys s → below keys s < length keys
   unfolding below
-  below-small s a =
+  below_small s a =
       let e = ap length (keep_all keys) in
-      let h = keep-less (λ (p : Range). ltb p.offset s) (λ (p : Range). true) (λ p e. refl) keys
-      (any-imp (λ (p : Range). p.offset ≡ s) (λ (p : Range). (ltb p.offset s ≡ false) × (true ≡ true))
+      let h = keep_less (λ (p : Range). ltb p.offset s) (λ (p : Range). true) (λ p e. refl) keys
+      (any_imp (λ (p : Range). p.offset ≡ s) (λ (p : Range). (ltb p.offset s ≡ false) × (true ≡ true))
       (λ p d. (le-ltb p.offset s (omega arith), refl)) keys a) in
       omega arith
 
   -- numbers of the list stand as their ranks do
-  below-order : (s r : ℕ) → Numbered keys s → Numbered keys r → leb (below keys s) (below keys r) ≡ leb s r
-  below-order s r a b =
-      by-lt r s (λ h. let l = below_less r s h b in lt-leb (below keys s) (below keys r) l ∙ sym (lt-leb s r h))
-      (λ h. let l = below-least s r h in le-leb (below keys s) (below keys r) l ∙ sym (le-leb s r h))
+  below_order : (s r : ℕ) → Numbered keys s → Numbered keys r → leb (below keys s) (below keys r) ≡ leb s r
+  below_order s r a b =
+      by_lt r s (λ h. let l = below_less r s h b in lt-leb (below keys s) (below keys r) l ∙ sym (lt-leb s r h))
+      (λ h. let l = below_least s r h in le-leb (below keys s) (below keys r) l ∙ sym (le-leb s r h))
 
 -- ---- the keys of all records, and the ranks in the end
 
@@ -193,11 +193,11 @@ pub record KeysOf (all : List ℕ) (keys : List Range) : Type 0 where
   pub size : length keys ≡ length all
   pub at : (j : ℕ) → j < length all → get_or keys j blank ≡ range (get_or all j 0) j
 
-pub keys-sorted : (l : List Range) (m : ℕ) → Keys l m → Keys (sorted l) m
-keys-sorted l m k =
+pub keys_sorted : (l : List Range) (m : ℕ) → Keys l m → Keys (sorted l) m
+keys_sorted l m k =
     record {
-      places = all-sorted (λ (p : Range). p.len < m) l k.places;
-      steady = all-sorted (Alone (sorted l)) l (all-imp (Alone l) (Alone (sorted l)) (λ p a. all-sorted (λ (q : Range). p.len ≡ q.len → p.offset ≡ q.offset) l a) l k.steady);
+      places = all_sorted (λ (p : Range). p.len < m) l k.places;
+      steady = all_sorted (Alone (sorted l)) l (all_imp (Alone l) (Alone (sorted l)) (λ p a. all_sorted (λ (q : Range). p.len ≡ q.len → p.offset ≡ q.offset) l a) l k.steady);
     }
   where
     Alone : List Range → Range → Type 0
@@ -205,11 +205,11 @@ keys-sorted l m k =
 
 -- after the sort
 module _ (k₀ k₁ : List ℕ) (n : ℕ) (h : Sorted k₀ k₁ n) (e : is_odd k₀ ≡ false) where
-  pub keys-ready : (m : ℕ) → Keys (pairs k₀) m → Ascending (pairs k₁) × Keys (pairs k₁) m
-  keys-ready m k = rw (sorted-pairs k₀ k₁ n h e) (sorted-ascending (pairs k₀), keys-sorted (pairs k₀) m k)
+  pub keys_ready : (m : ℕ) → Keys (pairs k₀) m → Ascending (pairs k₁) × Keys (pairs k₁) m
+  keys_ready m k = rw (sorted_pairs k₀ k₁ n h e) (sorted_ascending (pairs k₀), keys_sorted (pairs k₀) m k)
 
-  pub keys-ranked : (ranks : List ℕ) → Ranked (pairs k₁) ranks → Ranked (sorted (pairs k₀)) ranks
-  keys-ranked ranks r = rw (sym (sorted-pairs k₀ k₁ n h e)) r
+  pub keys_ranked : (ranks : List ℕ) → Ranked (pairs k₁) ranks → Ranked (sorted (pairs k₀)) ranks
+  keys_ranked ranks r = rw (sym (sorted_pairs k₀ k₁ n h e)) r
 
 module _ {all : List ℕ} {keys : List Range} (g : KeysOf all keys) where
   pub keys_of : (m : ℕ) → length all ≤ m → Keys keys m
@@ -230,32 +230,32 @@ module _ {all : List ℕ} {keys : List Range} (g : KeysOf all keys) where
   -- each record's key is one of the sorted ones
   there : (a : ℕ) → a < length all → Any (λ (p : Range). p ≡ range (get_or all a 0) a) (sorted keys)
   there a h =
-      any-sorted (λ (p : Range). p ≡ range (get_or all a 0) a) keys
+      any_sorted (λ (p : Range). p ≡ range (get_or all a 0) a) keys
       (any_of (λ (p : Range). p ≡ range (get_or all a 0) a) keys a blank (omega (arith, g.size)) (g.at a h))
 
   numbered : (a : ℕ) → a < length all → Numbered (sorted keys) (get_or all a 0)
   numbered a h =
-      any-imp (λ (p : Range). p ≡ range (get_or all a 0) a) (λ (p : Range). p.offset ≡ get_or all a 0) (λ p e. ap (λ (q : Range). q.offset) e) (sorted keys) (there a h)
+      any_imp (λ (p : Range). p ≡ range (get_or all a 0) a) (λ (p : Range). p.offset ≡ get_or all a 0) (λ p e. ap (λ (q : Range). q.offset) e) (sorted keys) (there a h)
 
   module _ (ranks : List ℕ) (r : Ranked (sorted keys) ranks) where
-    rank-of : (a : ℕ) → a < length all → get_or ranks a 0 ≡ below (sorted keys) (get_or all a 0)
-    rank-of a h =
+    rank_of : (a : ℕ) → a < length all → get_or ranks a 0 ≡ below (sorted keys) (get_or all a 0)
+    rank_of a h =
         let t = any_at (λ (p : Range). p ≡ range (get_or all a 0) a) (sorted keys) blank (there a h) in
         let e = t.2 in
         ap (λ (p : Range). get_or ranks p.len 0) (sym e) ∙ r.rank t.0 t.1 ∙ ap (λ (p : Range). below (sorted keys) p.offset) e
 
-    pub ranks-of : Ranks all ranks
-    ranks-of =
+    pub ranks_of : Ranks all ranks
+    ranks_of =
         record {
-          order = λ a b h i. rw (rank-of a h, rank-of b i) (below-order (sorted keys) (get_or all a 0) (get_or all b 0) (numbered a h) (numbered b i));
-          small = λ a h. rw (rank-of a h) (let l = below-small (sorted keys) (get_or all a 0) (numbered a h) in let e = sorted-length keys in omega (arith, g.size));
+          order = λ a b h i. rw (rank_of a h, rank_of b i) (below_order (sorted keys) (get_or all a 0) (get_or all b 0) (numbered a h) (numbered b i));
+          small = λ a h. rw (rank_of a h) (let l = below_small (sorted keys) (get_or all a 0) (numbered a h) in let e = sorted_length keys in omega (arith, g.size));
         }
 
 module _ (a b : List ℕ) (u : ℕ) (k₀ k₁ k₂ : List ℕ) (e : u ≡ length a) (f : Keyed a 0 k₀ k₁) (g : Keyed b u k₁ k₂) where
   pub both_at : (j : ℕ) → j < length (a ++ b) → get_or (pairs k₂) j blank ≡ range (get_or (a ++ b) j 0) j
   both_at j h =
       let l = length-append a b in
-      by-lt j u
+      by_lt j u
       (λ i. g.old j i ∙ ap (λ (n : ℕ). get_or (pairs k₁) n blank) (omega arith) ∙ f.new j (omega arith) ∙ ap (λ (n : ℕ). range (get_or a j 0) n) (omega arith) ∙ ap (λ (n : ℕ). range n j) (sym (get_or-append a b 0 j (omega arith))))
       (λ i.
       let d : j ≡ length a + (j - u) = omega arith in
@@ -263,9 +263,9 @@ module _ (a b : List ℕ) (u : ℕ) (k₀ k₁ k₂ : List ℕ) (e : u ≡ lengt
       ap (λ (n : ℕ). get_or (pairs k₂) n blank) (omega arith) ∙ g.new (j - u) (omega arith)
       ∙ ap (λ (n : ℕ). range (get_or b (j - u) 0) n) (omega arith) ∙ ap (λ (n : ℕ). range n j) (sym q))
 
-  pub both-keys : (m : ℕ) → m ≡ 2 * length (a ++ b) → m ≤ length k₀ → KeysOf (a ++ b) (pairs (take m k₂))
-  both-keys m d h =
-      let p : pairs (take m k₂) ≡ take (length (a ++ b)) (pairs k₂) = ap (λ (n : ℕ). pairs (take n k₂)) d ∙ pairs-take (length (a ++ b)) k₂ in
+  pub both_keys : (m : ℕ) → m ≡ 2 * length (a ++ b) → m ≤ length k₀ → KeysOf (a ++ b) (pairs (take m k₂))
+  both_keys m d h =
+      let p : pairs (take m k₂) ≡ take (length (a ++ b)) (pairs k₂) = ap (λ (n : ℕ). pairs (take n k₂)) d ∙ pairs_take (length (a ++ b)) k₂ in
       let l = length_pairs k₂ in
       let s = g.size in
       let t = f.size in
@@ -275,11 +275,11 @@ module _ (a b : List ℕ) (u : ℕ) (k₀ k₁ k₂ : List ℕ) (e : u ≡ lengt
       }
 
 -- the array of keys has room for both kinds
-pub keys-room : (u : ℕ) → u ≤ 1024 → 0 + u ≤ length (pairs (replicate 4096 0))
-keys-room u h = let e = length_pairs (replicate 4096 0) in let f = length-replicate {A = ℕ} 4096 0 in omega arith
+pub keys_room : (u : ℕ) → u ≤ 1024 → 0 + u ≤ length (pairs (replicate 4096 0))
+keys_room u h = let e = length_pairs (replicate 4096 0) in let f = length-replicate {A = ℕ} 4096 0 in omega arith
 
-pub keys-more : (u v : ℕ) (k : List ℕ) → u ≤ 1024 → v ≤ 1024 → length k ≡ length {A = ℕ} (replicate 4096 0) → u + v ≤ length (pairs k)
-keys-more u v k a b e = let l = length_pairs k in let r = length-replicate {A = ℕ} 4096 0 in omega arith
+pub keys_more : (u v : ℕ) (k : List ℕ) → u ≤ 1024 → v ≤ 1024 → length k ≡ length {A = ℕ} (replicate 4096 0) → u + v ≤ length (pairs k)
+keys_more u v k a b e = let l = length_pairs k in let r = length-replicate {A = ℕ} 4096 0 in omega arith
 
 -- the part that is ranked, as the code cuts it
 module _ (seqs own k₁ k₂ : List ℕ) (u v : ℕ) (few : u ≤ 1024) (few' : v ≤ 1024) (enough : u ≤ length seqs) (enough' : v ≤ length own)
@@ -293,15 +293,15 @@ module _ (seqs own k₁ k₂ : List ℕ) (u v : ℕ) (few : u ≤ 1024) (few' : 
       let b = length-take-le v own enough' in
       length-append (take u seqs) (take v own) ∙ omega arith
 
-  pub all-keys : KeysOf (take u seqs ++ take v own) (pairs part)
-  all-keys =
+  pub all_keys : KeysOf (take u seqs ++ take v own) (pairs part)
+  all_keys =
       let s = sizes in
       let r = length-replicate {A = ℕ} 4096 0 in
-      both-keys (take u seqs) (take v own) u (replicate 4096 0) k₁ k₂ (sym (length-take-le u seqs enough)) f g (2 * (u + v) - 0) (omega arith) (omega arith)
+      both_keys (take u seqs) (take v own) u (replicate 4096 0) k₁ k₂ (sym (length-take-le u seqs enough)) f g (2 * (u + v) - 0) (omega arith) (omega arith)
 
-  pub all-ready : (n : ℕ) → n ≡ 2048 → (is_odd part ≡ false) × Keys (pairs part) n
-  all-ready n e =
+  pub all_ready : (n : ℕ) → n ≡ 2048 → (is_odd part ≡ false) × Keys (pairs part) n
+  all_ready n e =
       let s = sizes in
       let r = length-replicate {A = ℕ} 4096 0 in
       let l : length part ≡ 2 * (u + v) - 0 = length-take-le (2 * (u + v) - 0) k₂ (omega (arith, g.size, f.size)) in
-      (even-list part (omega arith), keys_of all-keys n (omega arith))
+      (even_list part (omega arith), keys_of all_keys n (omega arith))

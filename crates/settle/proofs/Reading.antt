@@ -14,10 +14,10 @@ use Rattle.numbers.specs.Sums.{sum}
 use Rattle.settle.specs.Inner.{no_region}
 use Rattle.settle.specs.Regions.{Lent, Region, regions, regions_of}
 
-pub length-regions : (n : ℕ) (seqs counts : List ℕ) (rs : List Range) (lens names : List ℕ) → length (regions n seqs counts rs lens names) ≡ n
+pub length_regions : (n : ℕ) (seqs counts : List ℕ) (rs : List Range) (lens names : List ℕ) → length (regions n seqs counts rs lens names) ≡ n
 unfolding regions
-length-regions zero seqs counts rs lens names = refl
-length-regions (suc n) seqs counts rs lens names = ap suc (length-regions n (drop 1 seqs) (drop 1 counts) (drop (get_or counts 0 0) rs) (drop 1 lens) (drop 24 names))
+length_regions zero seqs counts rs lens names = refl
+length_regions (suc n) seqs counts rs lens names = ap suc (length_regions n (drop 1 seqs) (drop 1 counts) (drop (get_or counts 0 0) rs) (drop 1 lens) (drop 24 names))
 
 -- the region at i
 abbrev pub region_at : (seqs counts : List ℕ) → List Range → (lens names : List ℕ) → ℕ → Region
@@ -55,8 +55,8 @@ region-at (suc n) seqs counts rs lens names (suc i) h =
     )
 
 module _ (g : Lent) where
-  pub length-of : length (regions_of g) ≡ g.count
-  length-of = length-regions g.count g.seqs g.counts (pairs g.ranges) g.lens g.names
+  pub length_of : length (regions_of g) ≡ g.count
+  length_of = length_regions g.count g.seqs g.counts (pairs g.ranges) g.lens g.names
 
-  pub region-of : (i : ℕ) → i < g.count → get_or (regions_of g) i no_region ≡ region_at g.seqs g.counts (pairs g.ranges) g.lens g.names i
-  region-of i h = region-at g.count g.seqs g.counts (pairs g.ranges) g.lens g.names i h
+  pub region_of : (i : ℕ) → i < g.count → get_or (regions_of g) i no_region ≡ region_at g.seqs g.counts (pairs g.ranges) g.lens g.names i
+  region_of i h = region-at g.count g.seqs g.counts (pairs g.ranges) g.lens g.names i h

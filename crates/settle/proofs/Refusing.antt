@@ -16,10 +16,10 @@ use Rattle.numbers.specs.Sums.{top, stop, sum}
 use Rattle.settle.specs.Inner.{Enough, Short, OwnShort}
 use Rattle.settle.specs.Regions.{Lent}
 use Rattle.settle.specs.Settle.{range_count, too_long, lent_fails, settle_fails}
-use Rattle.numbers.proofs.Cases.{cases, by-lt, clash, or-false}
-use Rattle.numbers.proofs.Lists.{all_append, all-imp, any_of, any_false, of-any, of_none}
-use Rattle.numbers.proofs.Pairs.{length_pairs, odd-list, even-list}
-use Rattle.numbers.proofs.Sums.{stop-add, sum-next}
+use Rattle.numbers.proofs.Cases.{cases, by_lt, clash, or-false}
+use Rattle.numbers.proofs.Lists.{all_append, all_imp, any_of, any_false, of_any, of_none}
+use Rattle.numbers.proofs.Pairs.{length_pairs, odd_list, even_list}
+use Rattle.numbers.proofs.Sums.{stop_add, sum_next}
 
 -- ---- a sum that stops
 
@@ -28,23 +28,23 @@ pub record Summing (count : ℕ) (l : List ℕ) (s i : ℕ) : Type 0 where
   pub upto : i ≤ count
   pub value : s ≡ stop (sum (take i l))
 
-pub summing-begins : (count : ℕ) (l : List ℕ) → count ≤ length l → Summing count l 0 0
+pub summing_begins : (count : ℕ) (l : List ℕ) → count ≤ length l → Summing count l 0 0
 unfolding sum
-summing-begins count l h = record { enough = h; upto = omega arith; value = omega arith }
+summing_begins count l h = record { enough = h; upto = omega arith; value = omega arith }
 
 module _ {count : ℕ} {l : List ℕ} {s i : ℕ} (g : Summing count l s i) where
   pub summing_on : (r : ℕ) → i < count → r ≡ stop (s + get_or l i 0) → Summing count l r (i + 1)
   summing_on r h e =
-      let n = sum-next l i (omega (arith, g.enough)) in
+      let n = sum_next l i (omega (arith, g.enough)) in
       let m = ap (λ (k : ℕ). sum (take k l)) (add-one i) in
       record {
         enough = g.enough;
         upto = omega arith;
-        value = e ∙ ap (λ (k : ℕ). stop (k + get_or l i 0)) g.value ∙ stop-add (sum (take i l)) (get_or l i 0) ∙ ap stop (sym n ∙ sym m);
+        value = e ∙ ap (λ (k : ℕ). stop (k + get_or l i 0)) g.value ∙ stop_add (sum (take i l)) (get_or l i 0) ∙ ap stop (sym n ∙ sym m);
       }
 
-  pub summing-ends : count ≤ i → s ≡ stop (sum (take count l))
-  summing-ends h = let u = g.upto in let e : i ≡ count = omega arith in g.value ∙ ap (λ (k : ℕ). stop (sum (take k l))) e
+  pub summing_ends : count ≤ i → s ≡ stop (sum (take count l))
+  summing_ends h = let u = g.upto in let e : i ≡ count = omega arith in g.value ∙ ap (λ (k : ℕ). stop (sum (take k l))) e
 
 -- ---- a search for the first that passes a test
 
@@ -53,25 +53,25 @@ pub record Looking (f : ℕ → Bool) (count : ℕ) (l : List ℕ) (i : ℕ) : T
   pub upto : i ≤ count
   pub none : All (λ (x : ℕ). f x ≡ false) (take i l)
 
-pub looking-begins : (f : ℕ → Bool) (count : ℕ) (l : List ℕ) → count ≤ length l → Looking f count l 0
-looking-begins f count l h = record { enough = h; upto = omega arith; none = tt }
+pub looking_begins : (f : ℕ → Bool) (count : ℕ) (l : List ℕ) → count ≤ length l → Looking f count l 0
+looking_begins f count l h = record { enough = h; upto = omega arith; none = tt }
 
 module _ {f : ℕ → Bool} {count : ℕ} {l : List ℕ} {i : ℕ} (g : Looking f count l i) where
-  pub looking-found : i < count → f (get_or l i 0) ≡ true → any f (take count l) ≡ true
-  looking-found h e =
+  pub looking_found : i < count → f (get_or l i 0) ≡ true → any f (take count l) ≡ true
+  looking_found h e =
       let t = length-take-le count l g.enough in
-      of-any f (take count l) (any_of (λ (x : ℕ). f x ≡ true) (take count l) i 0 (omega arith) (ap f (get_or-take count l i 0 h) ∙ e))
+      of_any f (take count l) (any_of (λ (x : ℕ). f x ≡ true) (take count l) i 0 (omega arith) (ap f (get_or-take count l i 0 h) ∙ e))
 
-  pub looking-on : i < count → f (get_or l i 0) ≡ false → Looking f count l (i + 1)
-  looking-on h e =
+  pub looking_on : i < count → f (get_or l i 0) ≡ false → Looking f count l (i + 1)
+  looking_on h e =
       record {
         enough = g.enough;
         upto = omega arith;
         none = rw (add-one i, take-suc l i 0 (omega (arith, g.enough))) (all_append (λ (x : ℕ). f x ≡ false) (take i l) (get_or l i 0 ∷ []) g.none (e, tt));
       }
 
-  pub looking-ends : count ≤ i → any f (take count l) ≡ false
-  looking-ends h =
+  pub looking_ends : count ≤ i → any f (take count l) ≡ false
+  looking_ends h =
       let u = g.upto in
       let e : i ≡ count = omega arith in
       rw (sym e) (of_none f (take i l) g.none)
@@ -79,57 +79,57 @@ module _ {f : ℕ → Bool} {count : ℕ} {l : List ℕ} {i : ℕ} (g : Looking 
 -- ---- one length
 
 module _ (unnamed : Bool) (n : ℕ) where
-  pub name-short : n ≤ 24 → false ≡ too_long unnamed n
+  pub name_short : n ≤ 24 → false ≡ too_long unnamed n
   unfolding too_long
-  name-short h = sym (simp (le-ltb 24 n h))
+  name_short h = sym (simp (le-ltb 24 n h))
 
-  pub name-none : 24 < n → unnamed ≡ true → not (eqb n 255) ≡ too_long unnamed n
+  pub name_none : 24 < n → unnamed ≡ true → not (eqb n 255) ≡ too_long unnamed n
   unfolding too_long
-  name-none h e = sym (simp (lt-ltb 24 n h, e))
+  name_none h e = sym (simp (lt-ltb 24 n h, e))
 
-  pub name-long : 24 < n → unnamed ≡ false → true ≡ too_long unnamed n
+  pub name_long : 24 < n → unnamed ≡ false → true ≡ too_long unnamed n
   unfolding too_long
-  name-long h e = sym (simp (lt-ltb 24 n h, e))
+  name_long h e = sym (simp (lt-ltb 24 n h, e))
 
 -- ---- the lists of one kind
 
 module _ (unnamed : Bool) (g : Lent) where
   -- one test that fails is enough
-  pub fails-count : 1024 < g.count → true ≡ lent_fails unnamed g
+  pub fails_count : 1024 < g.count → true ≡ lent_fails unnamed g
   unfolding lent_fails
-  fails-count h = simp (lt-ltb _ _ h)
+  fails_count h = simp (lt-ltb _ _ h)
 
-  pub fails-seqs : length g.seqs < g.count → true ≡ lent_fails unnamed g
+  pub fails_seqs : length g.seqs < g.count → true ≡ lent_fails unnamed g
   unfolding lent_fails
-  fails-seqs h = simp (lt-ltb _ _ h, or-true)
+  fails_seqs h = simp (lt-ltb _ _ h, or-true)
 
-  pub fails-counts : length g.counts < g.count → true ≡ lent_fails unnamed g
+  pub fails_counts : length g.counts < g.count → true ≡ lent_fails unnamed g
   unfolding lent_fails
-  fails-counts h = simp (lt-ltb _ _ h, or-true)
+  fails_counts h = simp (lt-ltb _ _ h, or-true)
 
-  pub fails-lens : length g.lens < g.count → true ≡ lent_fails unnamed g
+  pub fails_lens : length g.lens < g.count → true ≡ lent_fails unnamed g
   unfolding lent_fails
-  fails-lens h = simp (lt-ltb _ _ h, or-true)
+  fails_lens h = simp (lt-ltb _ _ h, or-true)
 
-  pub fails-names : length g.names < 24 * g.count → true ≡ lent_fails unnamed g
+  pub fails_names : length g.names < 24 * g.count → true ≡ lent_fails unnamed g
   unfolding lent_fails
-  fails-names h = simp (lt-ltb _ _ h, or-true)
+  fails_names h = simp (lt-ltb _ _ h, or-true)
 
-  pub fails-odd : (length g.ranges % 2 ≡ 0 → ⊥) → true ≡ lent_fails unnamed g
+  pub fails_odd : (length g.ranges % 2 ≡ 0 → ⊥) → true ≡ lent_fails unnamed g
   unfolding lent_fails
-  fails-odd h = simp (odd-list g.ranges h, or-true)
+  fails_odd h = simp (odd_list g.ranges h, or-true)
 
-  pub fails-ranges : length g.ranges / 2 < stop (range_count g) → true ≡ lent_fails unnamed g
+  pub fails_ranges : length g.ranges / 2 < stop (range_count g) → true ≡ lent_fails unnamed g
   unfolding lent_fails
-  fails-ranges h =
+  fails_ranges h =
       let l = length_pairs g.ranges in
       let i : length (pairs g.ranges) < range_count g = omega arith in
       simp (lt-ltb _ _ i, or-true)
 
   -- the last test decides where no other fails
-  pub enough-long : Enough g → any (too_long unnamed) (take g.count g.lens) ≡ lent_fails unnamed g
+  pub enough_long : Enough g → any (too_long unnamed) (take g.count g.lens) ≡ lent_fails unnamed g
   unfolding lent_fails
-  enough-long h =
+  enough_long h =
       simp (
         le-ltb _ _ h.few,
         le-ltb _ _ h.seqs,
@@ -140,11 +140,11 @@ module _ (unnamed : Bool) (g : Lent) where
         le-ltb _ _ h.ranges,
       )
 
-  pub fails-long : g.count ≤ 1024 → g.count ≤ length g.seqs → g.count ≤ length g.counts → g.count ≤ length g.lens → 24 * g.count ≤ length g.names
+  pub fails_long : g.count ≤ 1024 → g.count ≤ length g.seqs → g.count ≤ length g.counts → g.count ≤ length g.lens → 24 * g.count ≤ length g.names
       → length g.ranges % 2 ≡ 0 → length g.ranges < top → stop (range_count g) ≤ length g.ranges / 2 → any (too_long unnamed) (take g.count g.lens) ≡ lent_fails unnamed g
-  fails-long a b c d e f s h =
+  fails_long a b c d e f s h =
       let l = length_pairs g.ranges in
-      enough-long (record { few = a; seqs = b; counts = c; lens = d; names = e; even = even-list g.ranges f; ranges = omega arith })
+      enough_long (record { few = a; seqs = b; counts = c; lens = d; names = e; even = even_list g.ranges f; ranges = omega arith })
 
   -- ---- what it means that none of them fails
 
@@ -171,30 +171,30 @@ module _ (unnamed : Bool) (g : Lent) where
       )
 
 -- and the other way round
-pub short-passes : (g : Lent) → Enough g → Short g → lent_fails false g ≡ false
+pub short_passes : (g : Lent) → Enough g → Short g → lent_fails false g ≡ false
 unfolding too_long
-short-passes g h s =
-    sym (enough-long false g h)
-    ∙ of_none (too_long false) _ (all-imp (λ (n : ℕ). n ≤ 24) (λ (n : ℕ). too_long false n ≡ false) (λ n l. simp (le-ltb 24 n l)) (take g.count g.lens) s)
+short_passes g h s =
+    sym (enough_long false g h)
+    ∙ of_none (too_long false) _ (all_imp (λ (n : ℕ). n ≤ 24) (λ (n : ℕ). too_long false n ≡ false) (λ n l. simp (le-ltb 24 n l)) (take g.count g.lens) s)
 
-pub own-short-passes : (g : Lent) → Enough g → OwnShort g → lent_fails true g ≡ false
+pub own_short_passes : (g : Lent) → Enough g → OwnShort g → lent_fails true g ≡ false
 unfolding too_long
-own-short-passes g h s =
-    sym (enough-long true g h)
+own_short_passes g h s =
+    sym (enough_long true g h)
     ∙ of_none (too_long true) _
-    (all-imp (λ (n : ℕ). (n ≤ 24) ⊎ (n ≡ 255)) (λ (n : ℕ). too_long true n ≡ false)
+    (all_imp (λ (n : ℕ). (n ≤ 24) ⊎ (n ≡ 255)) (λ (n : ℕ). too_long true n ≡ false)
     (λ n. ⊎_elim (λ l. simp (le-ltb 24 n l)) (λ e. simp (eq-eqb n 255 e, and-false))) (take g.count g.lens) s)
 
 pub short : (g : Lent) → lent_fails false g ≡ false → Short g
 unfolding too_long
 short g e =
-    all-imp (λ (n : ℕ). too_long false n ≡ false) (λ (n : ℕ). n ≤ 24)
+    all_imp (λ (n : ℕ). too_long false n ≡ false) (λ (n : ℕ). n ≤ 24)
     (λ n d. cases (ltb 24 n) (λ t. clash {b = ltb 24 n && true} (simp t) d) (λ f. ltb-false 24 n f)) (take g.count g.lens) (passed false g e).1
 
-pub own-short : (g : Lent) → lent_fails true g ≡ false → OwnShort g
+pub own_short : (g : Lent) → lent_fails true g ≡ false → OwnShort g
 unfolding too_long
-own-short g e =
-    all-imp (λ (n : ℕ). too_long true n ≡ false) (λ (n : ℕ). (n ≤ 24) ⊎ (n ≡ 255))
+own_short g e =
+    all_imp (λ (n : ℕ). too_long true n ≡ false) (λ (n : ℕ). (n ≤ 24) ⊎ (n ≡ 255))
     (λ n d. cases (ltb 24 n)
     (λ t. cases (eqb n 255) (λ q. inr (eqb-true n 255 q)) (λ q. clash {b = ltb 24 n && not (eqb n 255)} (simp (t, q)) d))
     (λ f. inl (ltb-false 24 n f))) (take g.count g.lens) (passed true g e).1
@@ -202,36 +202,36 @@ own-short g e =
 -- ---- all tests
 
 module _ (us un : Lent) (marks scratch : ℕ) where
-  pub fails-usable : lent_fails false us ≡ true → true ≡ settle_fails us un marks scratch
+  pub fails_usable : lent_fails false us ≡ true → true ≡ settle_fails us un marks scratch
   unfolding settle_fails
-  fails-usable e = simp e
+  fails_usable e = simp e
 
-  pub fails-unavailable : lent_fails true un ≡ true → true ≡ settle_fails us un marks scratch
+  pub fails_unavailable : lent_fails true un ≡ true → true ≡ settle_fails us un marks scratch
   unfolding settle_fails
-  fails-unavailable e = simp (e, or-true)
+  fails_unavailable e = simp (e, or-true)
 
-  pub fails-marks : marks < us.count → true ≡ settle_fails us un marks scratch
+  pub fails_marks : marks < us.count → true ≡ settle_fails us un marks scratch
   unfolding settle_fails
-  fails-marks h = simp (lt-ltb _ _ h, or-true)
+  fails_marks h = simp (lt-ltb _ _ h, or-true)
 
   -- with the numbers of ranges as the code counts them
   module _ (a b : ℕ) (d : a ≡ stop (range_count us)) (e : b ≡ stop (range_count un)) where
-    pub fails-many : ltb 65536 (a + b) ≡ true → true ≡ settle_fails us un marks scratch
+    pub fails_many : ltb 65536 (a + b) ≡ true → true ≡ settle_fails us un marks scratch
     unfolding settle_fails
-    fails-many f =
+    fails_many f =
         let h = ltb-true 65536 (a + b) f in
         let i : 65536 < range_count us + range_count un = omega arith in
         simp (lt-ltb _ _ i, or-true)
 
     -- the last test decides where no other fails
-    pub fails-scratch : lent_fails false us ≡ false → lent_fails true un ≡ false → ltb 65536 (a + b) ≡ false → us.count ≤ marks
+    pub fails_scratch : lent_fails false us ≡ false → lent_fails true un ≡ false → ltb 65536 (a + b) ≡ false → us.count ≤ marks
         → ltb (scratch / 16) (a + b) ≡ settle_fails us un marks scratch
     unfolding settle_fails
-    fails-scratch f g c m =
+    fails_scratch f g c m =
         let h = ltb-false 65536 (a + b) c in
         let i : range_count us + range_count un ≤ 65536 = omega arith in
         let j : a + b ≡ range_count us + range_count un = omega arith in
         simp (f, g, le-ltb 65536 (range_count us + range_count un) i, le-ltb marks us.count m, j)
-        (by-lt (scratch / 16) (range_count us + range_count un)
+        (by_lt (scratch / 16) (range_count us + range_count un)
         (λ k. lt-ltb _ _ k ∙ sym (lt-ltb scratch (16 * (range_count us + range_count un)) (omega arith)))
         (λ k. le-ltb _ _ k ∙ sym (le-ltb scratch (16 * (range_count us + range_count un)) (omega arith))))

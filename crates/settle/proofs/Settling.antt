@@ -16,17 +16,17 @@ use Rattle.settle.specs.Inner.{Enough, Short, OwnShort, Sized, Struck, firsts}
 use Rattle.settle.specs.Naming.{outdone}
 use Rattle.settle.specs.Regions.{Lent, lent, regions, regions_of}
 use Rattle.settle.specs.Settle.{mark_of, marks_of, range_count, settle_fails, Settled}
-use Rattle.numbers.proofs.Cases.{by-lt, clash, or-false}
-use Rattle.settle.proofs.Marking.{firsts-length, marks-length, mark-at}
-use Rattle.settle.proofs.Namesakes.{renamed-is}
-use Rattle.settle.proofs.Reading.{length-of}
-use Rattle.settle.proofs.Refusing.{passed, short, own-short, short-passes, own-short-passes}
+use Rattle.numbers.proofs.Cases.{by_lt, clash, or-false}
+use Rattle.settle.proofs.Marking.{firsts_length, marks_length, mark_at}
+use Rattle.settle.proofs.Namesakes.{renamed_is}
+use Rattle.settle.proofs.Reading.{length_of}
+use Rattle.settle.proofs.Refusing.{passed, short, own_short, short_passes, own_short_passes}
 
 pub record Accepted (us un : Lent) (marks scratch : ℕ) : Type 0 where
   pub ours : Enough us
   pub theirs : Enough un
   pub names : Short us
-  pub own-names : OwnShort un
+  pub own_names : OwnShort un
   pub few : range_count us + range_count un ≤ 65536
   pub room : us.count ≤ marks
   pub space : 16 * (range_count us + range_count un) ≤ scratch
@@ -42,7 +42,7 @@ accepted us un marks scratch e =
       ours = (passed false us d.0).0;
       theirs = (passed true un d.1).0;
       names = short us d.0;
-      own-names = own-short un d.1;
+      own_names = own_short un d.1;
       few = ltb-false 65536 (range_count us + range_count un) c.1;
       room = ltb-false marks us.count b.1;
       space = ltb-false scratch (16 * (range_count us + range_count un)) a.1;
@@ -53,51 +53,51 @@ pub accepts : (us un : Lent) (marks scratch : ℕ) → Accepted us un marks scra
 unfolding settle_fails
 accepts us un marks scratch a =
     simp (
-      short-passes us a.ours a.names,
-      own-short-passes un a.theirs a.own-names,
+      short_passes us a.ours a.names,
+      own_short_passes un a.theirs a.own_names,
       le-ltb _ _ a.few,
       le-ltb _ _ a.room,
       le-ltb _ _ a.space,
     )
 
 -- lists of no records
-pub none-enough : (seqs counts ranges lens names : List ℕ) → is_odd ranges ≡ false → Enough (lent 0 seqs counts ranges lens names)
+pub none_enough : (seqs counts ranges lens names : List ℕ) → is_odd ranges ≡ false → Enough (lent 0 seqs counts ranges lens names)
 unfolding sum
-none-enough seqs counts ranges lens names e =
+none_enough seqs counts ranges lens names e =
     record { few = omega arith; seqs = omega arith; counts = omega arith; lens = omega arith; names = omega arith; even = e; ranges = omega arith }
 
-pub none-regions : (seqs counts ranges lens names : List ℕ) → regions_of (lent 0 seqs counts ranges lens names) ≡ []
+pub none_regions : (seqs counts ranges lens names : List ℕ) → regions_of (lent 0 seqs counts ranges lens names) ≡ []
 unfolding regions
-none-regions seqs counts ranges lens names = refl
+none_regions seqs counts ranges lens names = refl
 
 pub sized : (g : Lent) → Enough g → Sized g.count g.counts g.ranges
-sized g e = record { few = e.few; counts-in = e.counts; ranges_in = e.ranges }
+sized g e = record { few = e.few; counts_in = e.counts; ranges_in = e.ranges }
 
 -- the arrays counted by records are long enough, before and after a call
-pub array-room : {A : Type 0} (z : A) (g : Lent) → Enough g → g.count ≤ length (replicate 1024 z)
-array-room z g e = let r = length-replicate 1024 z in omega (arith, e.few)
+pub array_room : {A : Type 0} (z : A) (g : Lent) → Enough g → g.count ≤ length (replicate 1024 z)
+array_room z g e = let r = length-replicate 1024 z in omega (arith, e.few)
 
-pub array-more : {A : Type 0} (z : A) (g : Lent) → Enough g → (l : List A) → length l ≡ length (replicate 1024 z) → g.count ≤ length l
-array-more z g e l q = let r = length-replicate 1024 z in omega (arith, e.few)
+pub array_more : {A : Type 0} (z : A) (g : Lent) → Enough g → (l : List A) → length l ≡ length (replicate 1024 z) → g.count ≤ length l
+array_more z g e l q = let r = length-replicate 1024 z in omega (arith, e.few)
 
 -- the part of scratch that is lent on
-pub part-size : (s : List ℕ) (n : ℕ) → 4 * n ≤ length s → length (take (4 * n - 0) s) ≡ 4 * n
-part-size s n h = length-take-le (4 * n - 0) s (omega arith) ∙ omega arith
+pub part_size : (s : List ℕ) (n : ℕ) → 4 * n ≤ length s → length (take (4 * n - 0) s) ≡ 4 * n
+part_size s n h = length-take-le (4 * n - 0) s (omega arith) ∙ omega arith
 
 -- ---- the counts, as the code takes them
 
 module _ {us un : Lent} {marks scratch : ℕ} (g : Accepted us un marks scratch) (a b : ℕ) (d : a ≡ stop (range_count us)) (e : b ≡ stop (range_count un)) where
-  pub count-first : a ≡ range_count us
-  count-first = omega (arith, g.few)
+  pub count_first : a ≡ range_count us
+  count_first = omega (arith, g.few)
 
-  pub count-all : a + b ≡ a + range_count un
-  count-all = omega (arith, g.few)
+  pub count_all : a + b ≡ a + range_count un
+  count_all = omega (arith, g.few)
 
-  pub count-few : a + b ≤ 65536
-  count-few = omega (arith, g.few)
+  pub count_few : a + b ≤ 65536
+  count_few = omega (arith, g.few)
 
-  pub count-space : 4 * (a + b) ≤ scratch
-  count-space = omega (arith, g.few, g.space)
+  pub count_space : 4 * (a + b) ≤ scratch
+  count_space = omega (arith, g.few, g.space)
 
 -- ---- the marks
 
@@ -105,42 +105,42 @@ firsts_at : (f : ℕ → ℕ) (n i : ℕ) → i < n → get_or (firsts f n) i 0 
 unfolding firsts
 firsts_at f zero i h = absurd (not-suc-le-zero h)
 firsts_at f (suc n) i h =
-    let l = firsts-length f n in
-    by-lt i n (λ k. get_or-append (firsts f n) (f n ∷ []) 0 i (omega arith) ∙ firsts_at f n i k)
+    let l = firsts_length f n in
+    by_lt i n (λ k. get_or-append (firsts f n) (f n ∷ []) 0 i (omega arith) ∙ firsts_at f n i k)
     (λ k. let e : n ≡ i = omega arith in get_or_at (firsts f n) (f n) [] 0 i (l ∙ e) ∙ ap f e)
 
 module _ (us un : Lent) {marks scratch : ℕ} (g : Accepted us un marks scratch) (over under : List Bool) (s : Struck us un over under) where
   abbrev pub found : ℕ → ℕ
   found i = mark_of (get_or over i false) (outdone i us.count us.seqs us.lens us.names un.count un.seqs un.lens un.names) (get_or under i false)
 
-  marks-found : firsts found us.count ≡ marks_of (regions_of us) (regions_of un)
-  marks-found =
-      let l = length-of us in
-      let f = firsts-length found us.count in
-      let m = marks-length (regions_of us) (regions_of un) in
+  marks_found : firsts found us.count ≡ marks_of (regions_of us) (regions_of un)
+  marks_found =
+      let l = length_of us in
+      let f = firsts_length found us.count in
+      let m = marks_length (regions_of us) (regions_of un) in
       ext_get_or 0 (firsts found us.count) (marks_of (regions_of us) (regions_of un)) (omega arith) (λ i h. at i (omega arith))
     where
       at : (i : ℕ) → i < us.count → get_or (firsts found us.count) i 0 ≡ get_or (marks_of (regions_of us) (regions_of un)) i 0
       at i h =
-          let l = length-of us in
+          let l = length_of us in
           firsts_at found us.count i h
-          ∙ rw (s.overlap i h, s.supersede i h, renamed-is us un g.ours g.theirs g.names g.own-names i h) refl
-          ∙ sym (mark-at (regions_of us) (regions_of un) i (omega arith))
+          ∙ rw (s.overlap i h, s.supersede i h, renamed_is us un g.ours g.theirs g.names g.own_names i h) refl
+          ∙ sym (mark_at (regions_of us) (regions_of un) i (omega arith))
 
 -- ---- the promise
 
 module _ (us un : Lent) (m₀ s₀ : List ℕ) where
-  pub settled-refused : settle_fails us un (length m₀) (length s₀) ≡ true → Settled us un m₀ m₀ s₀ s₀ 1
+  pub settled_refused : settle_fails us un (length m₀) (length s₀) ≡ true → Settled us un m₀ m₀ s₀ s₀ 1
   unfolding refuse
-  settled-refused e = record { number = simp e; slots = simp e; kept = λ f. refl }
+  settled_refused e = record { number = simp e; slots = simp e; kept = λ f. refl }
 
   module _ (g : Accepted us un (length m₀) (length s₀)) (over under : List Bool) (t : Struck us un over under) where
-    pub settled-marked : (m s : List ℕ) → m ≡ written (firsts (found us un g over under t) us.count) m₀ → Settled us un m₀ m s₀ s 0
+    pub settled_marked : (m s : List ℕ) → m ≡ written (firsts (found us un g over under t) us.count) m₀ → Settled us un m₀ m s₀ s 0
     unfolding refuse
-    settled-marked m s w =
+    settled_marked m s w =
         let e = accepts us un (length m₀) (length s₀) g in
         record {
           number = simp e;
-          slots = simp e (w ∙ ap (λ (l : List ℕ). written l m₀) (marks-found us un g over under t));
+          slots = simp e (w ∙ ap (λ (l : List ℕ). written l m₀) (marks_found us un g over under t));
           kept = λ f. clash f e;
         }

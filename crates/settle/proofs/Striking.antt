@@ -13,9 +13,9 @@ use Rattle.settle.specs.Ranking.{Ranks}
 use Rattle.settle.specs.Regions.{Lent, pieces, pieces_from, regions_of}
 use Rattle.settle.specs.Sweeping.{Ready, SweptBoth, items_of}
 use Rattle.settle.specs.declared.sweep.Item.{Item}
-use Rattle.numbers.proofs.Lists.{all-imp}
-use Rattle.numbers.proofs.Pairs.{pairs-take, pairs-drop}
-use Rattle.settle.proofs.Meeting.{all-seqs, items-owner, swept-overlapped, swept-superseded}
+use Rattle.numbers.proofs.Lists.{all_imp}
+use Rattle.numbers.proofs.Pairs.{pairs_take, pairs_drop}
+use Rattle.settle.proofs.Meeting.{all_seqs, items_owner, swept_overlapped, swept_superseded}
 
 -- the two parts of scratch, as the code cuts them
 module _ (s : List ℕ) (n : ℕ) where
@@ -26,14 +26,14 @@ module _ (s : List ℕ) (n : ℕ) where
   facts_part = take (length s - 2 * n) (drop (2 * n) s)
 
   order-part : pairs order_part ≡ take n (pairs s)
-  order-part = let e : 2 * n - 0 ≡ 2 * n = omega arith in ap (λ (m : ℕ). pairs (take m s)) e ∙ pairs-take n s
+  order-part = let e : 2 * n - 0 ≡ 2 * n = omega arith in ap (λ (m : ℕ). pairs (take m s)) e ∙ pairs_take n s
 
   facts-part : pairs facts_part ≡ drop n (pairs s)
-  facts-part = let d = length-drop (2 * n) s in ap pairs (take_all (length s - 2 * n) (drop (2 * n) s) (omega arith)) ∙ pairs-drop n s
+  facts-part = let d = length-drop (2 * n) s in ap pairs (take_all (length s - 2 * n) (drop (2 * n) s) (omega arith)) ∙ pairs_drop n s
 
 -- the marks begin unset
-first-mark : (m₀ : List Bool) (i : ℕ) {m x y : Bool} → m₀ ≡ replicate 1024 false → i < 1024 → x ≡ y → m ≡ (get_or m₀ i false || x) → m ≡ y
-first-mark m₀ i {x = x} a h d e =
+first_mark : (m₀ : List Bool) (i : ℕ) {m x y : Bool} → m₀ ≡ replicate 1024 false → i < 1024 → x ≡ y → m ≡ (get_or m₀ i false || x) → m ≡ y
+first_mark m₀ i {x = x} a h d e =
     let u : get_or m₀ i false ≡ false = ap (λ (l : List Bool). get_or l i false) a ∙ get_or-replicate 1024 i false false h in
     e ∙ ap (λ (c : Bool). c || x) u ∙ d
 
@@ -44,26 +44,26 @@ module _ (us un : Lent) (z : Sized us.count us.counts us.ranges) (z' : Sized un.
   o' : Ordered (pieces (regions_of us) ++ pieces_from us.count (regions_of un)) (pairs (order_part s n)) (pairs (facts_part s n))
   o' = rw (order-part s n, facts-part s n) o
 
-  pub strike-ready : length ranks ≡ 2048
+  pub strike_ready : length ranks ≡ 2048
       → (over under : List Bool) → over ≡ replicate 1024 false → under ≡ replicate 1024 false
       → Ready (pairs (order_part s n)) (pairs (facts_part s n)) us.count ranks (length over) (length under)
-  strike-ready k over under a b =
-      let q = all-seqs us un e e' (pairs (order_part s n)) (pairs (facts_part s n)) ranks o' r in
+  strike_ready k over under a b =
+      let q = all_seqs us un e e' (pairs (order_part s n)) (pairs (facts_part s n)) ranks o' r in
       let f = length-replicate {A = Bool} 1024 false in
       let g = ap length a in
       let h = ap length b in
       record {
-        owners = all-imp (λ (x : Item). x.owner < us.count + un.count) (λ (x : Item). (x.owner < length ranks) × (get_or ranks x.owner 0 < 2048))
+        owners = all_imp (λ (x : Item). x.owner < us.count + un.count) (λ (x : Item). (x.owner < length ranks) × (get_or ranks x.owner 0 < 2048))
             (λ x i. (omega (arith, z.few, z'.few), let j = r.small x.owner (omega arith) in omega (arith, z.few, z'.few)))
-            (items_of (pairs (order_part s n)) (pairs (facts_part s n))) (items-owner us un e e' (pairs (order_part s n)) (pairs (facts_part s n)) ranks o' r);
-        over-room = omega (arith, z.few);
-        under-room = omega (arith, z.few);
+            (items_of (pairs (order_part s n)) (pairs (facts_part s n))) (items_owner us un e e' (pairs (order_part s n)) (pairs (facts_part s n)) ranks o' r);
+        over_room = omega (arith, z.few);
+        under_room = omega (arith, z.few);
       }
 
-  pub strike-marks : {over₀ over under₀ under : List Bool} → over₀ ≡ replicate 1024 false → under₀ ≡ replicate 1024 false
+  pub strike_marks : {over₀ over under₀ under : List Bool} → over₀ ≡ replicate 1024 false → under₀ ≡ replicate 1024 false
       → SweptBoth (items_of (pairs (order_part s n)) (pairs (facts_part s n))) us.count ranks over₀ over under₀ under → Struck us un over under
-  strike-marks {over₀} {over} {under₀} {under} a b g =
+  strike_marks {over₀} {over} {under₀} {under} a b g =
       record {
-        overlap = λ i h. first-mark over₀ i a (omega (arith, z.few)) (swept-overlapped us un e e' (pairs (order_part s n)) (pairs (facts_part s n)) ranks o' r i h) (g.over-marks i h);
-        supersede = λ i h. first-mark under₀ i b (omega (arith, z.few)) (swept-superseded us un e e' (pairs (order_part s n)) (pairs (facts_part s n)) ranks o' r i h) (g.under-marks i h);
+        overlap = λ i h. first_mark over₀ i a (omega (arith, z.few)) (swept_overlapped us un e e' (pairs (order_part s n)) (pairs (facts_part s n)) ranks o' r i h) (g.over_marks i h);
+        supersede = λ i h. first_mark under₀ i b (omega (arith, z.few)) (swept_superseded us un e e' (pairs (order_part s n)) (pairs (facts_part s n)) ranks o' r i h) (g.under_marks i h);
       }

@@ -14,11 +14,11 @@ use Rattle.numbers.specs.Range.{Range, blank}
 use Rattle.settle.specs.Inner.{Tree, reach, Raised}
 use Rattle.settle.specs.Sweeping.{item_of, no_item, item_at, items_of, mirror, walk, within, usable_over, own_over, struck, behind, strikes, Arrived, Ready, Swept, SweptBoth}
 use Rattle.settle.specs.declared.sweep.Item.{Item}
-use Rattle.numbers.proofs.Cases.{by-lt, by-eq, cases, clash}
-use Rattle.numbers.proofs.Lists.{all_append, all-at, mapped_at, stored-new, stored-old, reverse-at}
+use Rattle.numbers.proofs.Cases.{by_lt, by_eq, cases, clash}
+use Rattle.numbers.proofs.Lists.{all_append, all_at, mapped_at, stored_new, stored_old, reverse_at}
 use Rattle.numbers.proofs.Pairs.{length_pairs}
-use Rattle.settle.proofs.Others.{any_last, behind-last}
-use Rattle.settle.proofs.Tree.{tree-blank, reach-blank}
+use Rattle.settle.proofs.Others.{any_last, behind_last}
+use Rattle.settle.proofs.Tree.{tree_blank, reach_blank}
 
 -- ---- what is read
 
@@ -29,38 +29,38 @@ read_at order facts t p f h e d =
 
 -- ---- the way, forward and back
 
-pub walk-length : (back : Bool) (l : List Item) → length (walk back l) ≡ length l
+pub walk_length : (back : Bool) (l : List Item) → length (walk back l) ≡ length l
 unfolding walk
-walk-length true l = length-reverse (map mirror l) ∙ length-map l mirror
-walk-length false l = refl
+walk_length true l = length-reverse (map mirror l) ∙ length-map l mirror
+walk_length false l = refl
 
 module _ (order : List ℕ) (facts : List Range) (t : ℕ) (back : Bool) (h : t < length (pairs order)) where
-  pub next-forth : back ≡ false → (x : Item) → x ≡ get_or (items_of (pairs order) facts) t no_item → x ≡ get_or (walk back (items_of (pairs order) facts)) t no_item
+  pub next_forth : back ≡ false → (x : Item) → x ≡ get_or (items_of (pairs order) facts) t no_item → x ≡ get_or (walk back (items_of (pairs order) facts)) t no_item
   unfolding walk
-  next-forth b x e = simp b e
+  next_forth b x e = simp b e
 
   abbrev last : ℕ
   last = length order / 2 - 1 - t
 
-  pub next-back : back ≡ true → (x : Item) → x ≡ get_or (items_of (pairs order) facts) last no_item → mirror x ≡ get_or (walk back (items_of (pairs order) facts)) t no_item
+  pub next_back : back ≡ true → (x : Item) → x ≡ get_or (items_of (pairs order) facts) last no_item → mirror x ≡ get_or (walk back (items_of (pairs order) facts)) t no_item
   unfolding walk
-  next-back b x e =
+  next_back b x e =
       let l = length_pairs order in
       let m = length-map (pairs order) (item_at facts) in
       let n = length-map (items_of (pairs order) facts) mirror in
       let i : length (map mirror (items_of (pairs order) facts)) - 1 - t ≡ last = omega arith in
-      simp b (ap mirror e ∙ sym (reverse-at (map mirror (items_of (pairs order) facts)) t no_item (omega arith)
+      simp b (ap mirror e ∙ sym (reverse_at (map mirror (items_of (pairs order) facts)) t no_item (omega arith)
       ∙ ap (λ (k : ℕ). get_or (map mirror (items_of (pairs order) facts)) k no_item) i
       ∙ mapped_at mirror (items_of (pairs order) facts) last no_item no_item (omega arith)))
 
 -- ---- one mark
 
 module _ (m : List Bool) (i : ℕ) (r : Bool) where
-  pub mark-new : (b : Bool) → not (get_or m i false) ≡ true → b ≡ r → set m i b ≡ set m i (get_or m i false || r)
-  mark-new b e f = ap (set m i) (f ∙ cases (get_or m i false) (λ t. clash {b = not (get_or m i false)} e (simp t)) (λ n. simp n))
+  pub mark_new : (b : Bool) → not (get_or m i false) ≡ true → b ≡ r → set m i b ≡ set m i (get_or m i false || r)
+  mark_new b e f = ap (set m i) (f ∙ cases (get_or m i false) (λ t. clash {b = not (get_or m i false)} e (simp t)) (λ n. simp n))
 
-  pub mark-kept : not (get_or m i false) ≡ false → m ≡ set m i (get_or m i false || r)
-  mark-kept e =
+  pub mark_kept : not (get_or m i false) ≡ false → m ≡ set m i (get_or m i false || r)
+  mark_kept e =
       cases (get_or m i false)
       (λ t. sym (set-get_or m i false) ∙ ap (set m i) (t ∙ simp t))
       (λ n. clash {b = not (get_or m i false)} (simp n) e)
@@ -71,75 +71,75 @@ module _ (m : List Bool) (i : ℕ) (r : Bool) where
 marked : (x : Item) (m₀ m : List Bool) (b : Bool) → x.owner < length m₀ → x.start < x.end → m ≡ set m₀ x.owner (get_or m₀ x.owner false || b)
     → (i : ℕ) → get_or m i false ≡ (get_or m₀ i false || (eqb x.owner i && ltb x.start x.end && b))
 marked x m₀ m b n h e i =
-    by-eq x.owner i
-    (λ d. stored-new m₀ m x.owner i (get_or m₀ x.owner false || b) false e n (sym d)
+    by_eq x.owner i
+    (λ d. stored_new m₀ m x.owner i (get_or m₀ x.owner false || b) false e n (sym d)
     ∙ ap (λ (k : ℕ). get_or m₀ k false || b) d ∙ sym (simp (eq-eqb x.owner i d, lt-ltb x.start x.end h)))
-    (λ d. stored-old m₀ m x.owner i (get_or m₀ x.owner false || b) false e (λ q. d (sym q))
+    (λ d. stored_old m₀ m x.owner i (get_or m₀ x.owner false || b) false e (λ q. d (sym q))
     ∙ sym (simp (ne_eqb x.owner i d, or-false)))
 
 module _ {x : Item} {u rank : ℕ} {held₀ own₀ : List ℕ} {over₀ under₀ : List Bool} where
   -- an empty range
-  pub arrives-empty : Tree held₀ → Tree own₀ → x.end ≤ x.start → Arrived x u rank held₀ held₀ own₀ own₀ over₀ over₀ under₀ under₀
-  arrives-empty a b h =
+  pub arrives_empty : Tree held₀ → Tree own₀ → x.end ≤ x.start → Arrived x u rank held₀ held₀ own₀ own₀ over₀ over₀ under₀ under₀
+  arrives_empty a b h =
       let e = le-ltb x.start x.end h in
       record {
-        held-tree = a;
-        held-reach = λ k v. simp (e, or-false);
-        own-tree = b;
-        own-reach = λ k v. simp (e, or-false);
-        over-size = refl;
-        over-marks = λ i l. simp (e, and-false, or-false);
-        under-size = refl;
-        under-marks = λ i l. simp (e, and-false, or-false);
+        held_tree = a;
+        held_reach = λ k v. simp (e, or-false);
+        own_tree = b;
+        own_reach = λ k v. simp (e, or-false);
+        over_size = refl;
+        over_marks = λ i l. simp (e, and-false, or-false);
+        under_size = refl;
+        under_marks = λ i l. simp (e, and-false, or-false);
       }
 
   -- an unavailable range
-  pub arrives-own : {own : List ℕ} → Tree held₀ → x.start < x.end → u ≤ x.owner → Raised own₀ own rank x.end → Arrived x u rank held₀ held₀ own₀ own over₀ over₀ under₀ under₀
-  arrives-own a h g r =
+  pub arrives_own : {own : List ℕ} → Tree held₀ → x.start < x.end → u ≤ x.owner → Raised own₀ own rank x.end → Arrived x u rank held₀ held₀ own₀ own over₀ over₀ under₀ under₀
+  arrives_own a h g r =
       let e = lt-ltb x.start x.end h in
       let f = le-ltb x.owner u g in
       record {
-        held-tree = a;
-        held-reach = λ k v. simp (e, f, or-false);
-        own-tree = r.tree;
-        own-reach = λ k v. r.reaches k v ∙ simp (e, le-leb u x.owner g);
-        over-size = refl;
-        over-marks = λ i l. simp (ne_eqb x.owner i (λ d. omega arith), or-false);
-        under-size = refl;
-        under-marks = λ i l. simp (ne_eqb x.owner i (λ d. omega arith), or-false);
+        held_tree = a;
+        held_reach = λ k v. simp (e, f, or-false);
+        own_tree = r.tree;
+        own_reach = λ k v. r.reaches k v ∙ simp (e, le-leb u x.owner g);
+        over_size = refl;
+        over_marks = λ i l. simp (ne_eqb x.owner i (λ d. omega arith), or-false);
+        under_size = refl;
+        under_marks = λ i l. simp (ne_eqb x.owner i (λ d. omega arith), or-false);
       }
 
   -- a usable one
-  pub arrives-held : {held : List ℕ} {over under : List Bool} → Tree own₀ → x.start < x.end → x.owner < u → u ≤ length over₀ → u ≤ length under₀
+  pub arrives_held : {held : List ℕ} {over under : List Bool} → Tree own₀ → x.start < x.end → x.owner < u → u ≤ length over₀ → u ≤ length under₀
       → over ≡ set over₀ x.owner (get_or over₀ x.owner false || reach held₀ rank x.start)
       → under ≡ set under₀ x.owner (get_or under₀ x.owner false || reach own₀ (rank + 1) x.start)
       → Raised held₀ held rank x.end → Arrived x u rank held₀ held own₀ own₀ over₀ over under₀ under
-  arrives-held b h g n m o p r =
+  arrives_held b h g n m o p r =
       let e = lt-ltb x.start x.end h in
       record {
-        held-tree = r.tree;
-        held-reach = λ k v. r.reaches k v ∙ simp (e, lt-ltb x.owner u g);
-        own-tree = b;
-        own-reach = λ k v. simp (e, lt-leb u x.owner g, or-false);
-        over-size = ap length o ∙ length-set over₀ x.owner (get_or over₀ x.owner false || reach held₀ rank x.start);
-        over-marks = λ i l. marked x over₀ _ (reach held₀ rank x.start) (omega arith) h o i;
-        under-size = ap length p ∙ length-set under₀ x.owner (get_or under₀ x.owner false || reach own₀ (rank + 1) x.start);
-        under-marks = λ i l. marked x under₀ _ (reach own₀ (rank + 1) x.start) (omega arith) h p i;
+        held_tree = r.tree;
+        held_reach = λ k v. r.reaches k v ∙ simp (e, lt-ltb x.owner u g);
+        own_tree = b;
+        own_reach = λ k v. simp (e, lt-leb u x.owner g, or-false);
+        over_size = ap length o ∙ length-set over₀ x.owner (get_or over₀ x.owner false || reach held₀ rank x.start);
+        over_marks = λ i l. marked x over₀ _ (reach held₀ rank x.start) (omega arith) h o i;
+        under_size = ap length p ∙ length-set under₀ x.owner (get_or under₀ x.owner false || reach own₀ (rank + 1) x.start);
+        under_marks = λ i l. marked x under₀ _ (reach own₀ (rank + 1) x.start) (omega arith) h p i;
       }
 
 -- ---- one pass
 
-any-ext : {A : Type 0} (f g : A → Bool) → ((x : A) → f x ≡ g x) → (l : List A) → any f l ≡ any g l
+any_ext : {A : Type 0} (f g : A → Bool) → ((x : A) → f x ≡ g x) → (l : List A) → any f l ≡ any g l
 unfolding any
-any-ext f g e [] = refl
-any-ext f g e (x ∷ xs) = rw (e x, any-ext f g e xs)
+any_ext f g e [] = refl
+any_ext f g e (x ∷ xs) = rw (e x, any_ext f g e xs)
 
 -- a test on y alone, before one on the others
-any-both : {A : Type 0} (b : Bool) (f : A → Bool) (l : List A) → any (λ (x : A). b && f x) l ≡ (b && any f l)
+any_both : {A : Type 0} (b : Bool) (f : A → Bool) (l : List A) → any (λ (x : A). b && f x) l ≡ (b && any f l)
 unfolding any
-any-both true f l = refl
-any-both false f [] = refl
-any-both false f (x ∷ xs) = any-both false f xs
+any_both true f l = refl
+any_both false f [] = refl
+any_both false f (x ∷ xs) = any_both false f xs
 
 shuffle : (a b c s z w : Bool) → (a && (b && c) && (s && z && w)) ≡ (a && s && (z && b && c && w))
 shuffle false b c s z w = refl
@@ -149,64 +149,64 @@ shuffle true false c true true w = refl
 shuffle true true c true true w = refl
 
 -- y is struck by one of l exactly where the table of those that may strike says so
-any-struck : (counts : Item → Item → Bool) (kind : Item → Bool) (ranks : List ℕ) (k i : ℕ) (y : Item) (l : List Item)
+any_struck : (counts : Item → Item → Bool) (kind : Item → Bool) (ranks : List ℕ) (k i : ℕ) (y : Item) (l : List Item)
     → ((x : Item) → counts y x ≡ (kind x && leb k (get_or ranks x.owner 0)))
     → any (struck counts i y) l ≡ (eqb y.owner i && ltb y.start y.end && any (λ (x : Item). strikes (kind x) (get_or ranks x.owner 0) k y.start x) l)
-any-struck counts kind ranks k i y l e =
-    any-ext (struck counts i y) (λ (x : Item). eqb y.owner i && ltb y.start y.end && strikes (kind x) (get_or ranks x.owner 0) k y.start x)
+any_struck counts kind ranks k i y l e =
+    any_ext (struck counts i y) (λ (x : Item). eqb y.owner i && ltb y.start y.end && strikes (kind x) (get_or ranks x.owner 0) k y.start x)
     (λ x. ap (λ (b : Bool). eqb y.owner i && b && within y x) (e x)
     ∙ shuffle (eqb y.owner i) (kind x) (leb k (get_or ranks x.owner 0)) (ltb y.start y.end) (ltb x.start x.end) (ltb y.start x.end)) l
-    ∙ any-both (eqb y.owner i && ltb y.start y.end) (λ (x : Item). strikes (kind x) (get_or ranks x.owner 0) k y.start x) l
+    ∙ any_both (eqb y.owner i && ltb y.start y.end) (λ (x : Item). strikes (kind x) (get_or ranks x.owner 0) k y.start x) l
 
-above-leb : (a b : ℕ) → ltb a b ≡ leb (a + 1) b
-above-leb a b = by-lt a b (λ h. lt-ltb a b h ∙ sym (le-leb (a + 1) b (omega arith))) (λ h. le-ltb a b h ∙ sym (lt-leb (a + 1) b (omega arith)))
+above_leb : (a b : ℕ) → ltb a b ≡ leb (a + 1) b
+above_leb a b = by_lt a b (λ h. lt-ltb a b h ∙ sym (le-leb (a + 1) b (omega arith))) (λ h. le-ltb a b h ∙ sym (lt-leb (a + 1) b (omega arith)))
 
 -- what the tables and marks hold after the first t ranges of the way
 pub record Sweeping (l : List Item) (u : ℕ) (ranks : List ℕ) (over₀ under₀ : List Bool) (held own : List ℕ) (over under : List Bool) (t : ℕ) : Type 0 where
   pub upto : t ≤ length l
-  pub held-tree : Tree held
-  pub own-tree : Tree own
-  pub held-reach : (k v : ℕ) → reach held k v ≡ any (λ (x : Item). strikes (ltb x.owner u) (get_or ranks x.owner 0) k v x) (take t l)
-  pub own-reach : (k v : ℕ) → reach own k v ≡ any (λ (x : Item). strikes (leb u x.owner) (get_or ranks x.owner 0) k v x) (take t l)
+  pub held_tree : Tree held
+  pub own_tree : Tree own
+  pub held_reach : (k v : ℕ) → reach held k v ≡ any (λ (x : Item). strikes (ltb x.owner u) (get_or ranks x.owner 0) k v x) (take t l)
+  pub own_reach : (k v : ℕ) → reach own k v ≡ any (λ (x : Item). strikes (leb u x.owner) (get_or ranks x.owner 0) k v x) (take t l)
   pub marks : Swept (take t l) u ranks over₀ over under₀ under
 
-pub sweep-begins : (l : List Item) (u : ℕ) (ranks : List ℕ) (over under : List Bool) → Sweeping l u ranks over under (replicate 6144 0) (replicate 6144 0) over under 0
+pub sweep_begins : (l : List Item) (u : ℕ) (ranks : List ℕ) (over under : List Bool) → Sweeping l u ranks over under (replicate 6144 0) (replicate 6144 0) over under 0
 unfolding any behind
-sweep-begins l u ranks over under =
+sweep_begins l u ranks over under =
     record {
       upto = omega arith;
-      held-tree = tree-blank;
-      own-tree = tree-blank;
-      held-reach = reach-blank;
-      own-reach = reach-blank;
+      held_tree = tree_blank;
+      own_tree = tree_blank;
+      held_reach = reach_blank;
+      own_reach = reach_blank;
       marks = record {
-        over-size = refl;
-        over-marks = λ i h. sym (or-false (get_or over i false));
-        under-size = refl;
-        under-marks = λ i h. sym (or-false (get_or under i false));
+        over_size = refl;
+        over_marks = λ i h. sym (or-false (get_or over i false));
+        under_size = refl;
+        under_marks = λ i h. sym (or-false (get_or under i false));
       };
     }
 
 module _ {l : List Item} {u : ℕ} {ranks : List ℕ} {over₀ under₀ : List Bool} {held own : List ℕ} {over under : List Bool} {t : ℕ}
     (g : Sweeping l u ranks over₀ under₀ held own over under t) where
-  pub sweep-on : {held' own' : List ℕ} {over' under' : List Bool} (y : Item) → y ≡ get_or l t no_item → t < length l
+  pub sweep_on : {held' own' : List ℕ} {over' under' : List Bool} (y : Item) → y ≡ get_or l t no_item → t < length l
       → Arrived y u (get_or ranks y.owner 0) held held' own own' over over' under under'
       → Sweeping l u ranks over₀ under₀ held' own' over' under' (t + 1)
-  sweep-on y e h a =
+  sweep_on y e h a =
       record {
         upto = omega arith;
-        held-tree = a.held-tree;
-        own-tree = a.own-tree;
-        held-reach = λ k v. a.held-reach k v ∙ table (λ (x : Item). strikes (ltb x.owner u) (get_or ranks x.owner 0) k v x) (reach held k v) (g.held-reach k v);
-        own-reach = λ k v. a.own-reach k v ∙ table (λ (x : Item). strikes (leb u x.owner) (get_or ranks x.owner 0) k v x) (reach own k v) (g.own-reach k v);
+        held_tree = a.held_tree;
+        own_tree = a.own_tree;
+        held_reach = λ k v. a.held_reach k v ∙ table (λ (x : Item). strikes (ltb x.owner u) (get_or ranks x.owner 0) k v x) (reach held k v) (g.held_reach k v);
+        own_reach = λ k v. a.own_reach k v ∙ table (λ (x : Item). strikes (leb u x.owner) (get_or ranks x.owner 0) k v x) (reach own k v) (g.own_reach k v);
         marks = record {
-          over-size = a.over-size ∙ g.marks.over-size;
-          over-marks = λ i n. a.over-marks i n
-              ∙ mark (usable_over ranks u) (λ (x : Item). ltb x.owner u) rank i (get_or over₀ i false) (λ x. refl) (g.marks.over-marks i n) (g.held-reach rank y.start);
-          under-size = a.under-size ∙ g.marks.under-size;
-          under-marks = λ i n. a.under-marks i n
+          over_size = a.over_size ∙ g.marks.over_size;
+          over_marks = λ i n. a.over_marks i n
+              ∙ mark (usable_over ranks u) (λ (x : Item). ltb x.owner u) rank i (get_or over₀ i false) (λ x. refl) (g.marks.over_marks i n) (g.held_reach rank y.start);
+          under_size = a.under_size ∙ g.marks.under_size;
+          under_marks = λ i n. a.under_marks i n
               ∙ mark (own_over ranks u) (λ (x : Item). leb u x.owner) (rank + 1) i (get_or under₀ i false)
-              (λ x. ap (λ (b : Bool). leb u x.owner && b) (above-leb rank (get_or ranks x.owner 0))) (g.marks.under-marks i n) (g.own-reach (rank + 1) y.start);
+              (λ x. ap (λ (b : Bool). leb u x.owner && b) (above_leb rank (get_or ranks x.owner 0))) (g.marks.under_marks i n) (g.own_reach (rank + 1) y.start);
         };
       }
     where
@@ -227,50 +227,50 @@ module _ {l : List Item} {u : ℕ} {ranks : List ℕ} {over₀ under₀ : List B
       mark counts kind k i b c d q =
           rw (d, q) (or_assoc b (behind (struck counts i) (take t l)) (eqb y.owner i && ltb y.start y.end && any (λ (x : Item). strikes (kind x) (get_or ranks x.owner 0) k y.start x) (take t l)))
           ∙ ap (λ (z : Bool). b || z)
-          (ap (λ (z : Bool). behind (struck counts i) (take t l) || z) (sym (any-struck counts kind ranks k i y (take t l) c))
-          ∙ sym (ap (behind (struck counts i)) more ∙ behind-last (struck counts i) (take t l) y))
+          (ap (λ (z : Bool). behind (struck counts i) (take t l) || z) (sym (any_struck counts kind ranks k i y (take t l) c))
+          ∙ sym (ap (behind (struck counts i)) more ∙ behind_last (struck counts i) (take t l) y))
 
-  pub sweep-ends : length l ≤ t → Swept l u ranks over₀ over under₀ under
-  sweep-ends h = rw (sym (take_all t l h)) g.marks
+  pub sweep_ends : length l ≤ t → Swept l u ranks over₀ over under₀ under
+  sweep_ends h = rw (sym (take_all t l h)) g.marks
 
 -- ---- what a pass asks, of the ranges on the way
 
-all-reverse : {A : Type 0} (P : A → Type 0) (l : List A) → All P l → All P (reverse l)
-all-reverse P [] a = tt
-all-reverse P (x ∷ xs) a = rw (reverse-cons x xs) (all_append P (reverse xs) (x ∷ []) (all-reverse P xs a.1) (a.0, tt))
+all_reverse : {A : Type 0} (P : A → Type 0) (l : List A) → All P l → All P (reverse l)
+all_reverse P [] a = tt
+all_reverse P (x ∷ xs) a = rw (reverse-cons x xs) (all_append P (reverse xs) (x ∷ []) (all_reverse P xs a.1) (a.0, tt))
 
-all-mirror : (P : ℕ → Type 0) (l : List Item) → All (λ (x : Item). P x.owner) l → All (λ (x : Item). P x.owner) (map mirror l)
-all-mirror P [] a = tt
-all-mirror P (x ∷ xs) a = (a.0, all-mirror P xs a.1)
+all_mirror : (P : ℕ → Type 0) (l : List Item) → All (λ (x : Item). P x.owner) l → All (λ (x : Item). P x.owner) (map mirror l)
+all_mirror P [] a = tt
+all_mirror P (x ∷ xs) a = (a.0, all_mirror P xs a.1)
 
-all-walk : (P : ℕ → Type 0) (back : Bool) (l : List Item) → All (λ (x : Item). P x.owner) l → All (λ (x : Item). P x.owner) (walk back l)
+all_walk : (P : ℕ → Type 0) (back : Bool) (l : List Item) → All (λ (x : Item). P x.owner) l → All (λ (x : Item). P x.owner) (walk back l)
 unfolding walk
-all-walk P true l a = all-reverse (λ (x : Item). P x.owner) (map mirror l) (all-mirror P l a)
-all-walk P false l a = a
+all_walk P true l a = all_reverse (λ (x : Item). P x.owner) (map mirror l) (all_mirror P l a)
+all_walk P false l a = a
 
 module _ (order : List ℕ) (facts : List Range) (u : ℕ) (ranks : List ℕ) (m n : ℕ) (r : Ready (pairs order) facts u ranks m n) (back : Bool) where
   abbrev way : List Item
   way = walk back (items_of (pairs order) facts)
 
-  pub way-length : length way ≡ length (pairs order)
-  way-length = walk-length back (items_of (pairs order) facts) ∙ length-map (pairs order) (item_at facts)
+  pub way_length : length way ≡ length (pairs order)
+  way_length = walk_length back (items_of (pairs order) facts) ∙ length-map (pairs order) (item_at facts)
 
-  pub way-owner : (t : ℕ) (x : Item) → x ≡ get_or way t no_item → t < length (pairs order) → (x.owner < length ranks) × (get_or ranks x.owner 0 < 2048)
-  way-owner t x e h =
-      let w = way-length in
-      rw e (all-at (λ (y : Item). (y.owner < length ranks) × (get_or ranks y.owner 0 < 2048)) way t no_item
-      (all-walk (λ (k : ℕ). (k < length ranks) × (get_or ranks k 0 < 2048)) back (items_of (pairs order) facts) r.owners) (omega arith))
+  pub way_owner : (t : ℕ) (x : Item) → x ≡ get_or way t no_item → t < length (pairs order) → (x.owner < length ranks) × (get_or ranks x.owner 0 < 2048)
+  way_owner t x e h =
+      let w = way_length in
+      rw e (all_at (λ (y : Item). (y.owner < length ranks) × (get_or ranks y.owner 0 < 2048)) way t no_item
+      (all_walk (λ (k : ℕ). (k < length ranks) × (get_or ranks k 0 < 2048)) back (items_of (pairs order) facts) r.owners) (omega arith))
 
 -- ---- both passes
 
-pub swept-both : {l : List Item} {u : ℕ} {ranks : List ℕ} {over₀ over₁ over₂ under₀ under₁ under₂ : List Bool}
+pub swept_both : {l : List Item} {u : ℕ} {ranks : List ℕ} {over₀ over₁ over₂ under₀ under₁ under₂ : List Bool}
     → Swept (walk false l) u ranks over₀ over₁ under₀ under₁ → Swept (walk true l) u ranks over₁ over₂ under₁ under₂ → SweptBoth l u ranks over₀ over₂ under₀ under₂
-swept-both {l} {u} {ranks} {over₀} {over₁} {over₂} {under₀} {under₁} {under₂} a b =
+swept_both {l} {u} {ranks} {over₀} {over₁} {over₂} {under₀} {under₁} {under₂} a b =
     record {
-      over-size = b.over-size ∙ a.over-size;
-      over-marks = λ i h. b.over-marks i h ∙ joined (struck (usable_over ranks u) i) (get_or over₀ i false) (a.over-marks i h);
-      under-size = b.under-size ∙ a.under-size;
-      under-marks = λ i h. b.under-marks i h ∙ joined (struck (own_over ranks u) i) (get_or under₀ i false) (a.under-marks i h);
+      over_size = b.over_size ∙ a.over_size;
+      over_marks = λ i h. b.over_marks i h ∙ joined (struck (usable_over ranks u) i) (get_or over₀ i false) (a.over_marks i h);
+      under_size = b.under_size ∙ a.under_size;
+      under_marks = λ i h. b.under_marks i h ∙ joined (struck (own_over ranks u) i) (get_or under₀ i false) (a.under_marks i h);
     }
   where
     joined : (f : Item → Item → Bool) (n : Bool) {m : Bool} → m ≡ (n || behind f (walk false l)) → (m || behind f (walk true l)) ≡ (n || (behind f (walk false l) || behind f (walk true l)))

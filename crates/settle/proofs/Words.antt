@@ -12,9 +12,9 @@ use Rattle.settle.specs.Laying.{no_piece}
 use Rattle.settle.specs.Regions.{Region, Piece, pieces}
 use Rattle.settle.specs.Settle.{overlapped, superseded}
 use Rattle.numbers.proofs.Cases.{and-true}
-use Rattle.numbers.proofs.Lists.{any_at, any_of, any-true, of-any}
-use Rattle.numbers.proofs.Ranges.{meets-true, meet-true}
-use Rattle.settle.proofs.Others.{other-places, places-other}
+use Rattle.numbers.proofs.Lists.{any_at, any_of, any_true, of_any}
+use Rattle.numbers.proofs.Ranges.{meets_true, meet_true}
+use Rattle.settle.proofs.Others.{other_places, places_other}
 
 -- "a range of the region meets another range in the usable list .. of equal or higher sequence number"
 pub record Overlap (us : List Region) (i : ℕ) : Type 0 where
@@ -46,16 +46,16 @@ module _ (order : ℕ → ℕ → Bool) (i : ℕ) (x y : Piece) where
   three e =
       let a = and-true (eqb x.region i && order x.seq y.seq) (meets x.range y.range) e in
       let b = and-true (eqb x.region i) (order x.seq y.seq) a.0 in
-      (eqb-true x.region i b.0, b.1, meets-true x.range y.range a.1)
+      (eqb-true x.region i b.0, b.1, meets_true x.range y.range a.1)
 
   all_three : x.region ≡ i → order x.seq y.seq ≡ true → Meet x.range y.range → strikes ≡ true
-  all_three r o m = simp (eq-eqb x.region i r, o, meet-true x.range y.range m)
+  all_three r o m = simp (eq-eqb x.region i r, o, meet_true x.range y.range m)
 
 module _ (us : List Region) (i : ℕ) where
-  pub overlapped-true : overlapped us i ≡ true → Overlap us i
+  pub overlapped_true : overlapped us i ≡ true → Overlap us i
   unfolding overlapped
-  overlapped-true e =
-      let p = other-places (strikes leb i) (pieces us) no_piece e in
+  overlapped_true e =
+      let p = other_places (strikes leb i) (pieces us) no_piece e in
       let t = three leb i (get_or (pieces us) p.left no_piece) (get_or (pieces us) p.right no_piece) p.holds in
       record {
         range = p.left;
@@ -68,10 +68,10 @@ module _ (us : List Region) (i : ℕ) where
         meet = t.2;
       }
 
-  pub overlap-true : Overlap us i → overlapped us i ≡ true
+  pub overlap_true : Overlap us i → overlapped us i ≡ true
   unfolding overlapped
-  overlap-true o =
-      places-other (strikes leb i) (pieces us) no_piece (record {
+  overlap_true o =
+      places_other (strikes leb i) (pieces us) no_piece (record {
         left = o.range;
         right = o.another;
         inside = o.inside;
@@ -84,12 +84,12 @@ module _ (us un : List Region) (i : ℕ) where
   abbrev one : Piece → Bool
   one x = any (strikes ltb i x) (pieces un)
 
-  pub superseded-true : superseded us un i ≡ true → Supersede us un i
+  pub superseded_true : superseded us un i ≡ true → Supersede us un i
   unfolding superseded
-  superseded-true e =
-      let a = any_at (λ (x : Piece). one x ≡ true) (pieces us) no_piece (any-true one (pieces us) e) in
+  superseded_true e =
+      let a = any_at (λ (x : Piece). one x ≡ true) (pieces us) no_piece (any_true one (pieces us) e) in
       let x : Piece = get_or (pieces us) a.0 no_piece in
-      let b = any_at (λ (y : Piece). strikes ltb i x y ≡ true) (pieces un) no_piece (any-true (strikes ltb i x) (pieces un) a.2) in
+      let b = any_at (λ (y : Piece). strikes ltb i x y ≡ true) (pieces un) no_piece (any_true (strikes ltb i x) (pieces un) a.2) in
       let t = three ltb i x (get_or (pieces un) b.0 no_piece) b.2 in
       record {
         range = a.0;
@@ -101,10 +101,10 @@ module _ (us un : List Region) (i : ℕ) where
         meet = t.2;
       }
 
-  pub supersede-true : Supersede us un i → superseded us un i ≡ true
+  pub supersede_true : Supersede us un i → superseded us un i ≡ true
   unfolding superseded
-  supersede-true s =
+  supersede_true s =
       let x : Piece = get_or (pieces us) s.range no_piece in
-      of-any one (pieces us) (any_of (λ (x : Piece). one x ≡ true) (pieces us) s.range no_piece s.inside
-      (of-any (strikes ltb i x) (pieces un) (any_of (λ (y : Piece). strikes ltb i x y ≡ true) (pieces un) s.another no_piece s.inside'
+      of_any one (pieces us) (any_of (λ (x : Piece). one x ≡ true) (pieces us) s.range no_piece s.inside
+      (of_any (strikes ltb i x) (pieces un) (any_of (λ (y : Piece). strikes ltb i x y ≡ true) (pieces un) s.another no_piece s.inside'
       (all_three ltb i x (get_or (pieces un) s.another no_piece) s.own (lt-ltb _ _ s.number) s.meet))))

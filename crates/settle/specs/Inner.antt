@@ -46,7 +46,7 @@ no_region = record { seq = 0; ranges = []; named = false; name = [] }
 -- What the passes over the ranges ask of a kind's lists.
 pub record Sized (n : ℕ) (counts ranges : List ℕ) : Type 0 where
   pub few : n ≤ 1024
-  pub counts-in : n ≤ length counts
+  pub counts_in : n ≤ length counts
   pub ranges_in : sum (take n counts) ≤ length (pairs ranges)
 
 -- What they find: which usable regions are overlapped, and which superseded.

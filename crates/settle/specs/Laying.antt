@@ -14,8 +14,8 @@ pub record Laid (ps : List Piece) (first n : ℕ) (s₀ s : List ℕ) : Type 0 w
   pub size : length s ≡ length s₀
   pub starts : (k : ℕ) → k < length ps → get_or (pairs s) (first + k) blank ≡ range (get_or ps k no_piece).range.offset (first + k)
   pub ends : (k : ℕ) → k < length ps → get_or (pairs s) (n + (first + k)) blank ≡ range (end_of (get_or ps k no_piece).range) (get_or ps k no_piece).region
-  pub old-starts : (j : ℕ) → j < first → get_or (pairs s) j blank ≡ get_or (pairs s₀) j blank
-  pub old-ends : (j : ℕ) → j < first → get_or (pairs s) (n + j) blank ≡ get_or (pairs s₀) (n + j) blank
+  pub old_starts : (j : ℕ) → j < first → get_or (pairs s) j blank ≡ get_or (pairs s₀) j blank
+  pub old_ends : (j : ℕ) → j < first → get_or (pairs s) (n + j) blank ≡ get_or (pairs s₀) (n + j) blank
 
 -- The pieces ps in the order of their starts: order holds each start with its place, sorted; facts hold the end and the region
 -- of each place.

@@ -21,10 +21,10 @@ Tagged count lens names tags = (j : ℕ) → j < count → get_or lens j 0 ≤ 2
 -- Lists of count records, with their tags.
 pub record Listed (count : ℕ) (seqs lens names tags : List ℕ) : Type 0 where
   pub few : count ≤ 1024
-  pub seqs-in : count ≤ length seqs
-  pub lens-in : count ≤ length lens
+  pub seqs_in : count ≤ length seqs
+  pub lens_in : count ≤ length lens
   pub names_in : 24 * count ≤ length names
-  pub tags-in : count ≤ length tags
+  pub tags_in : count ≤ length tags
   pub tagged : Tagged count lens names tags
 
 -- Where n is 0, none of the tags from one place on and below another is this one.

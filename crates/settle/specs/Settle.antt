@@ -8,7 +8,7 @@ use Rattle.numbers.specs.Sums.{sum}
 use Rattle.settle.specs.Regions.{Lent, Region, regions_of, Piece, pieces}
 
 -- f holds of some element of a list and of another one, at another place: the first with one behind it, in either role, or
--- two of those behind it. `other-places` and `places-other` (proofs/Others) say it with places.
+-- two of those behind it. `other_places` and `places_other` (proofs/Others) say it with places.
 unfoldable pub any_other : {A : Type 0} → (A → A → Bool) → List A → Bool
 any_other f [] = false
 any_other {A} f (x ∷ xs) = any (f x) xs || any (λ (y : A). f y x) xs || any_other f xs
@@ -38,8 +38,8 @@ renamed us un r =
     any (λ (q : Region). ltb r.seq q.seq) (namesakes us un r)
     || ltb 1 (length (keep (λ (q : Region). eqb q.seq (highest (namesakes us un r))) (namesakes us un r)))
 
--- A mark as a number: 1 for overlapped, 2 for renamed, 4 for superseded. `mark-at` (proofs/Marking) says which mark stands at
--- a place, `marks-none` and `none-marks` (proofs/Unmarked) when all are 0.
+-- A mark as a number: 1 for overlapped, 2 for renamed, 4 for superseded. `mark_at` (proofs/Marking) says which mark stands at
+-- a place, `marks_none` and `none_marks` (proofs/Unmarked) when all are 0.
 abbrev pub mark_of : Bool → Bool → Bool → ℕ
 mark_of o r s = cond o 1 0 + cond r 2 0 + cond s 4 0
 

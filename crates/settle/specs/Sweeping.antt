@@ -54,31 +54,31 @@ strikes kind rank k v x = ltb x.start x.end && kind && leb k rank && ltb v x.end
 
 -- The tables and marks after x arrived.
 pub record Arrived (x : Item) (u rank : ℕ) (held₀ held own₀ own : List ℕ) (over₀ over under₀ under : List Bool) : Type 0 where
-  pub held-tree : Tree held
-  pub held-reach : (k v : ℕ) → reach held k v ≡ (reach held₀ k v || strikes (ltb x.owner u) rank k v x)
-  pub own-tree : Tree own
-  pub own-reach : (k v : ℕ) → reach own k v ≡ (reach own₀ k v || strikes (leb u x.owner) rank k v x)
-  pub over-size : length over ≡ length over₀
-  pub over-marks : (i : ℕ) → i < u → get_or over i false ≡ (get_or over₀ i false || (eqb x.owner i && ltb x.start x.end && reach held₀ rank x.start))
-  pub under-size : length under ≡ length under₀
-  pub under-marks : (i : ℕ) → i < u → get_or under i false ≡ (get_or under₀ i false || (eqb x.owner i && ltb x.start x.end && reach own₀ (rank + 1) x.start))
+  pub held_tree : Tree held
+  pub held_reach : (k v : ℕ) → reach held k v ≡ (reach held₀ k v || strikes (ltb x.owner u) rank k v x)
+  pub own_tree : Tree own
+  pub own_reach : (k v : ℕ) → reach own k v ≡ (reach own₀ k v || strikes (leb u x.owner) rank k v x)
+  pub over_size : length over ≡ length over₀
+  pub over_marks : (i : ℕ) → i < u → get_or over i false ≡ (get_or over₀ i false || (eqb x.owner i && ltb x.start x.end && reach held₀ rank x.start))
+  pub under_size : length under ≡ length under₀
+  pub under_marks : (i : ℕ) → i < u → get_or under i false ≡ (get_or under₀ i false || (eqb x.owner i && ltb x.start x.end && reach own₀ (rank + 1) x.start))
 
 -- What a pass asks: owners and ranks are inside, and every usable region has its mark.
 pub record Ready (order facts : List Range) (u : ℕ) (ranks : List ℕ) (over under : ℕ) : Type 0 where
   pub owners : All (λ (x : Item). (x.owner < length ranks) × (get_or ranks x.owner 0 < 2048)) (items_of order facts)
-  pub over-room : u ≤ over
-  pub under-room : u ≤ under
+  pub over_room : u ≤ over
+  pub under_room : u ≤ under
 
 -- The marks after a pass over the ranges l.
 pub record Swept (l : List Item) (u : ℕ) (ranks : List ℕ) (over₀ over under₀ under : List Bool) : Type 0 where
-  pub over-size : length over ≡ length over₀
-  pub over-marks : (i : ℕ) → i < u → get_or over i false ≡ (get_or over₀ i false || behind (struck (usable_over ranks u) i) l)
-  pub under-size : length under ≡ length under₀
-  pub under-marks : (i : ℕ) → i < u → get_or under i false ≡ (get_or under₀ i false || behind (struck (own_over ranks u) i) l)
+  pub over_size : length over ≡ length over₀
+  pub over_marks : (i : ℕ) → i < u → get_or over i false ≡ (get_or over₀ i false || behind (struck (usable_over ranks u) i) l)
+  pub under_size : length under ≡ length under₀
+  pub under_marks : (i : ℕ) → i < u → get_or under i false ≡ (get_or under₀ i false || behind (struck (own_over ranks u) i) l)
 
 -- The marks after a pass forward and one back.
 pub record SweptBoth (l : List Item) (u : ℕ) (ranks : List ℕ) (over₀ over under₀ under : List Bool) : Type 0 where
-  pub over-size : length over ≡ length over₀
-  pub over-marks : (i : ℕ) → i < u → get_or over i false ≡ (get_or over₀ i false || (behind (struck (usable_over ranks u) i) (walk false l) || behind (struck (usable_over ranks u) i) (walk true l)))
-  pub under-size : length under ≡ length under₀
-  pub under-marks : (i : ℕ) → i < u → get_or under i false ≡ (get_or under₀ i false || (behind (struck (own_over ranks u) i) (walk false l) || behind (struck (own_over ranks u) i) (walk true l)))
+  pub over_size : length over ≡ length over₀
+  pub over_marks : (i : ℕ) → i < u → get_or over i false ≡ (get_or over₀ i false || (behind (struck (usable_over ranks u) i) (walk false l) || behind (struck (usable_over ranks u) i) (walk true l)))
+  pub under_size : length under ≡ length under₀
+  pub under_marks : (i : ℕ) → i < u → get_or under i false ≡ (get_or under₀ i false || (behind (struck (own_over ranks u) i) (walk false l) || behind (struck (own_over ranks u) i) (walk true l)))

@@ -8,22 +8,22 @@ use lib.Dec.{leb}
 use borrow.Author.Tests.{lt-ltb, le-ltb, lt-leb, le-leb}
 use Rattle.tagspace.specs.Extent.{extent_len}
 use Rattle.numbers.specs.Sums.{top}
-use Rattle.numbers.proofs.Cases.{by-lt}
+use Rattle.numbers.proofs.Cases.{by_lt}
 
 module _ (size block : ℕ) where
-  pub extent-none : top < 2 * block + size → extent_len size block ≡ none
+  pub extent_none : top < 2 * block + size → extent_len size block ≡ none
   unfolding extent_len
-  extent-none h = simp (lt-ltb top (2 * block + size) h)
+  extent_none h = simp (lt-ltb top (2 * block + size) h)
 
-  pub extent-some : 2 * block + size ≤ top → extent_len size block ≡ some (2 * block + size)
+  pub extent_some : 2 * block + size ≤ top → extent_len size block ≡ some (2 * block + size)
   unfolding extent_len
-  extent-some h = simp (le-ltb top (2 * block + size) h)
+  extent_some h = simp (le-ltb top (2 * block + size) h)
 
 module _ (a b c limit : ℕ) where
-  pub above-limit : limit < a + b → leb (a + b + c) limit ≡ false
-  above-limit h = lt-leb (a + b + c) limit (omega arith)
+  pub above_limit : limit < a + b → leb (a + b + c) limit ≡ false
+  above_limit h = lt-leb (a + b + c) limit (omega arith)
 
-  pub under-limit : a + b ≤ limit → leb c (limit - a - b) ≡ leb (a + b + c) limit
-  under-limit h =
-      by-lt limit (a + b + c) (λ l. lt-leb c (limit - a - b) (omega arith) ∙ sym (lt-leb (a + b + c) limit l))
+  pub under_limit : a + b ≤ limit → leb c (limit - a - b) ≡ leb (a + b + c) limit
+  under_limit h =
+      by_lt limit (a + b + c) (λ l. lt-leb c (limit - a - b) (omega arith) ∙ sym (lt-leb (a + b + c) limit l))
       (λ l. le-leb c (limit - a - b) (omega arith) ∙ sym (le-leb (a + b + c) limit l))

@@ -6,7 +6,7 @@ use lib.ListN.{length}
 use lib.Seq.{length-take-le}
 use borrow.Author.Rules.{rules}
 use Rattle.numbers.specs.Sums.{top}
-use Rattle.footprint.proofs.Answer.{all_listed, extra-in, refused-early, refused-last, ahead, usable}
+use Rattle.footprint.proofs.Answer.{all_listed, extra_in, refused_early, refused_last, ahead, usable}
 use Rattle.footprint.proofs.Passed.{Passed, all_pass}
 use Rattle.numbers.proofs.Pairs.{length_pairs}
 use mir.Syntax.{w64}
@@ -23,7 +23,7 @@ ready c =
     all_pass _ _ _ _ _ (length a.scratch.now) (sym c.refusal_before-refusal.ensures ∙ c.if-refusal-ne0.false)
 
 pub returns-then-refusal-ne0 : goal.returns-then-refusal-ne0
-returns-then-refusal-ne0 c = refused-early _ _ _ _ _ _ c.refusal_before-refusal.ensures c.if-refusal-ne0.true
+returns-then-refusal-ne0 c = refused_early _ _ _ _ _ _ c.refusal_before-refusal.ensures c.if-refusal-ne0.true
 
 pub slice_bounds-lay_out-end : goal.slice_bounds-lay_out-end
 slice_bounds-lay_out-end c = let p = (ready (goal.at.slice_bounds-lay_out-end c).Else-refusal-ne0).lists.room in omega arith
@@ -36,13 +36,13 @@ lay_out-requires c = let p = ready (goal.at.lay_out-requires c).Else-refusal-ne0
     (p.logs.high, omega (arith, l), omega (arith, all_listed p))
 
 pub returns-then-lay_out : goal.returns-then-lay_out
-returns-then-lay_out c = refused-last _ _ _ _ _ _ c.refusal_before-refusal.ensures c.if-refusal-ne0.false (bounded (goal.at.returns-then-lay_out c).Start) c.lay_out.ensures c.if-lay_out.true
+returns-then-lay_out c = refused_last _ _ _ _ _ _ c.refusal_before-refusal.ensures c.if-refusal-ne0.false (bounded (goal.at.returns-then-lay_out c).Start) c.lay_out.ensures c.if-lay_out.true
 
 pub bounds-extents-committed : goal.bounds-extents-committed
-bounds-extents-committed c = let h = extra-in (ready (goal.at.bounds-extents-committed c).Else-refusal-ne0) c.if-header-entry.true in omega arith
+bounds-extents-committed c = let h = extra_in (ready (goal.at.bounds-extents-committed c).Else-refusal-ne0) c.if-header-entry.true in omega arith
 
 pub bounds-extents-committed-then-header-entry : goal.bounds-extents-committed-then-header-entry
-bounds-extents-committed-then-header-entry c = let h = extra-in (ready (goal.at.bounds-extents-committed-then-header-entry c).Else-refusal-ne0) c.if-header-entry.true in omega arith
+bounds-extents-committed-then-header-entry c = let h = extra_in (ready (goal.at.bounds-extents-committed-then-header-entry c).Else-refusal-ne0) c.if-header-entry.true in omega arith
 
 pub returns-then-header-entry : goal.returns-then-header-entry
 returns-then-header-entry c = ahead _ _ _ _ _ _ c.refusal_before-refusal.ensures c.if-refusal-ne0.false (bounded (goal.at.returns-then-header-entry c).Start) c.lay_out.ensures c.if-lay_out.false c.if-header-entry.true

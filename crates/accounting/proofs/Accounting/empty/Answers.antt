@@ -3,9 +3,9 @@ use mathlib.Core.Path.{refl}
 use native.Mathlib.Omega.{arith}
 use Rattle.accounting.specs.Entries.{no_tags}
 use Rattle.accounting.specs.Table.{accounts_of}
-use Rattle.accounting.proofs.Tables.{accounts-valid}
+use Rattle.accounting.proofs.Tables.{accounts_valid}
 use Rattle.accounting.proofs.Accounting.empty.Goals as goal
 
 pub returns : goal.returns
 unfolding accounts_of
-returns c = rw c.blank-blank.ensures (refl, accounts-valid no_tags (omega arith) tt)
+returns c = rw c.blank-blank.ensures (refl, accounts_valid no_tags (omega arith) tt)

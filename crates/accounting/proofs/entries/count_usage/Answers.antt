@@ -2,11 +2,11 @@
 use mathlib.Core.Path.{ap, ◌∙◌}
 use native.Mathlib.Omega.{arith}
 use Rattle.tagspace.specs.Row.{add_usage}
-use Rattle.accounting.proofs.Counting.{counts-begin, counts-known, counts-new, counts-full, counts_end, usages-next, usages-end}
+use Rattle.accounting.proofs.Counting.{counts_begin, counts_known, counts_new, counts_full, counts_end, usages_next, usages_end}
 use Rattle.accounting.proofs.entries.count_usage.Goals as goal
 
 pub loop-i-init : goal.loop-i-init
-loop-i-init c = counts-begin _ _ c.empty-accounts.ensures.0
+loop-i-init c = counts_begin _ _ c.empty-accounts.ensures.0
 
 pub bounds-tags-i : goal.bounds-tags-i
 bounds-tags-i c = c.loop-i-test.true
@@ -33,19 +33,19 @@ pub loop-i-smaller-then-spot : goal.loop-i-smaller-then-spot
 loop-i-smaller-then-spot c = omega (arith, c.loop-i-test.true)
 
 pub loop-i-preserved-then-spot : goal.loop-i-preserved-then-spot
-loop-i-preserved-then-spot c = counts-known c.loop-i.invariant _ _ (usages-next _ _ _ _ c.loop-i-test.true) _ c.find-spot.ensures _ c.if-spot.true c.add_usage.ensures
+loop-i-preserved-then-spot c = counts_known c.loop-i.invariant _ _ (usages_next _ _ _ _ c.loop-i-test.true) _ c.find-spot.ensures _ c.if-spot.true c.add_usage.ensures
 
 pub insert-p-requires : goal.insert-p-requires
 insert-p-requires c = c.find-spot.ensures.inside
 
 pub returns-then-p-ne0 : goal.returns-then-p-ne0
-returns-then-p-ne0 c = rw c.refused.ensures (counts-full c.loop-i.invariant _ _ (usages-next _ _ _ _ c.loop-i-test.true) _ c.find-spot.ensures _ c.if-spot.false (c.add_usage-in-loop-i.ensures ∙ ap (add_usage _ _) c.blank.ensures) _ c.insert-p.ensures c.if-p-ne0.true)
+returns-then-p-ne0 c = rw c.refused.ensures (counts_full c.loop-i.invariant _ _ (usages_next _ _ _ _ c.loop-i-test.true) _ c.find-spot.ensures _ c.if-spot.false (c.add_usage-in-loop-i.ensures ∙ ap (add_usage _ _) c.blank.ensures) _ c.insert-p.ensures c.if-p-ne0.true)
 
 pub loop-i-smaller : goal.loop-i-smaller
 loop-i-smaller c = omega (arith, c.loop-i-test.true)
 
 pub loop-i-preserved : goal.loop-i-preserved
-loop-i-preserved c = counts-new c.loop-i.invariant _ _ (usages-next _ _ _ _ c.loop-i-test.true) _ c.find-spot.ensures _ c.if-spot.false (c.add_usage-in-loop-i.ensures ∙ ap (add_usage _ _) c.blank.ensures) _ c.insert-p.ensures c.if-p-ne0.false
+loop-i-preserved c = counts_new c.loop-i.invariant _ _ (usages_next _ _ _ _ c.loop-i-test.true) _ c.find-spot.ensures _ c.if-spot.false (c.add_usage-in-loop-i.ensures ∙ ap (add_usage _ _) c.blank.ensures) _ c.insert-p.ensures c.if-p-ne0.false
 
 pub returns : goal.returns
-returns c = counts_end c.loop-i.invariant (usages-end _ _ _ _ c.loop-i-test.false)
+returns c = counts_end c.loop-i.invariant (usages_end _ _ _ _ c.loop-i-test.false)

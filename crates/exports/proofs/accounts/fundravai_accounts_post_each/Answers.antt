@@ -10,8 +10,8 @@ use Rattle.accounting.specs.Entries.{usage, usages, differ}
 use Rattle.accounting.specs.declared.Accounting.{Accounting}
 use Rattle.accounting.specs.declared.Posted.{Posted}
 use Rattle.exports.specs.Each.{Post, posted}
-use Rattle.accounting.proofs.Counting.{usages-next, usages-end}
-use Rattle.flat.proofs.Chaining.{Going, going-begins, going_on, going-ends}
+use Rattle.accounting.proofs.Counting.{usages_next, usages_end}
+use Rattle.flat.proofs.Chaining.{Going, going_begins, going_on, going_ends}
 use Rattle.numbers.proofs.Cases.{clash}
 use Rattle.exports.proofs.accounts.fundravai_accounts_post_each.Goals as goal
 
@@ -25,7 +25,7 @@ turns : (remove : Bool) (tags logical physical : List ℕ) (a₀ a : Accounting)
     → Turned remove tags logical physical a₀ a refusal i
     → Post remove (usage (get_or tags i 0) (get_or logical i 0) (get_or physical i 0)) (posted refusal a) t
     → Turned remove tags logical physical a₀ t.accounts t.refusal (i + 1)
-turns remove _ _ _ _ _ _ i t h v p = (omega arith, going_on (Post remove) _ _ v.1 (usages-next _ _ _ i h) p)
+turns remove _ _ _ _ _ _ i t h v p = (omega arith, going_on (Post remove) _ _ v.1 (usages_next _ _ _ i h) p)
 
 pub returns-then-tags-logical : goal.returns-then-tags-logical
 unfolding differ
@@ -36,7 +36,7 @@ unfolding differ
 returns-then-tags-physical c = record { refused = λ e. refl; each = λ e. clash (simp (eq-eqb _ _ c.if-tags-logical.false, ne_eqb _ _ c.if-tags-physical.true)) e }
 
 pub loop-i-init : goal.loop-i-init
-loop-i-init c = (omega arith, going-begins (Post c.args.remove) _ _ _ refl)
+loop-i-init c = (omega arith, going_begins (Post c.args.remove) _ _ _ refl)
 
 pub offset_bounds-tags-i : goal.offset_bounds-tags-i
 offset_bounds-tags-i c = omega (arith, c.loop-i-test.true)
@@ -73,4 +73,4 @@ loop-i-preserved c = turns c.args.remove _ _ _ _ _ _ _ _ c.loop-i-test.true c.lo
 
 pub returns : goal.returns
 unfolding differ
-returns c = record { refused = λ e. clash e (simp (eq-eqb _ _ c.if-tags-logical.false, eq-eqb _ _ c.if-tags-physical.false)); each = λ e. record { posted = posted c.loop-i.refusal c.loop-i.accounts; promise = rw (← c.accounts_from-accounts.ensures) (going-ends (Post c.args.remove) _ _ c.loop-i.invariant.1 (usages-end _ _ _ _ c.loop-i-test.false)); flat = c.flat_posted.ensures } }
+returns c = record { refused = λ e. clash e (simp (eq-eqb _ _ c.if-tags-logical.false, eq-eqb _ _ c.if-tags-physical.false)); each = λ e. record { posted = posted c.loop-i.refusal c.loop-i.accounts; promise = rw (← c.accounts_from-accounts.ensures) (going_ends (Post c.args.remove) _ _ c.loop-i.invariant.1 (usages_end _ _ _ _ c.loop-i-test.false)); flat = c.flat_posted.ensures } }

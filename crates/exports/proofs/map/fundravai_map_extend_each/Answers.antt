@@ -3,11 +3,11 @@ use mathlib.Core.Path.{refl, ◌∙◌}
 use native.Mathlib.Omega.{arith}
 use Rattle.exports.specs.Each.{Extend}
 use Rattle.exports.proofs.Chaining.{pairs_next, pairs_end}
-use Rattle.flat.proofs.Chaining.{going-begins, going_on, going-ends}
+use Rattle.flat.proofs.Chaining.{going_begins, going_on, going_ends}
 use Rattle.exports.proofs.map.fundravai_map_extend_each.Goals as goal
 
 pub loop-i-init : goal.loop-i-init
-loop-i-init c = (omega arith, omega arith, refl, refl, going-begins Extend _ _ _ refl)
+loop-i-init c = (omega arith, omega arith, refl, refl, going_begins Extend _ _ _ refl)
 
 pub overflow_mul-i : goal.overflow_mul-i
 overflow_mul-i c = omega (arith, c.loop-i-test.true)
@@ -55,4 +55,4 @@ pub shape_of-files : goal.shape_of-files
 shape_of-files c = c.loop-i.invariant.3
 
 pub returns : goal.returns
-returns c = rw c.hand_out.ensures.map (going-ends Extend _ _ c.loop-i.invariant.4 (pairs_end _ _ c.loop-i-test.false))
+returns c = rw c.hand_out.ensures.map (going_ends Extend _ _ c.loop-i.invariant.4 (pairs_end _ _ c.loop-i-test.false))

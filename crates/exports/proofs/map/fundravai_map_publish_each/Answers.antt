@@ -3,12 +3,12 @@ use mathlib.Core.Path.{refl}
 use native.Mathlib.Omega.{arith}
 use lib.ListN.{drop_of_length-le}
 use Rattle.exports.specs.Each.{Publish}
-use Rattle.flat.proofs.Chaining.{going-begins, going_on, going-ends}
-use Rattle.numbers.proofs.Lists.{from-here}
+use Rattle.flat.proofs.Chaining.{going_begins, going_on, going_ends}
+use Rattle.numbers.proofs.Lists.{from_here}
 use Rattle.exports.proofs.map.fundravai_map_publish_each.Goals as goal
 
 pub loop-i-init : goal.loop-i-init
-loop-i-init c = (omega arith, omega arith, going-begins Publish _ _ _ refl)
+loop-i-init c = (omega arith, omega arith, going_begins Publish _ _ _ refl)
 
 pub offset_bounds-lens-i : goal.offset_bounds-lens-i
 offset_bounds-lens-i c = omega (arith, c.loop-i-test.true)
@@ -26,13 +26,13 @@ pub loop-i-smaller-in-Map : goal.loop-i-smaller-in-Map
 loop-i-smaller-in-Map c = omega (arith, c.loop-i-test.true)
 
 pub loop-i-preserved-in-Map : goal.loop-i-preserved-in-Map
-loop-i-preserved-in-Map c = let v = c.loop-i.invariant in (omega (arith, c.loop-i-test.true), omega (arith, v.1), going_on Publish _ _ v.2 (from-here _ _ 0 c.loop-i-test.true) (record { answer = _; promise = c.publish_len-mapped.ensures; map = rw c.in-Map.is refl; count = rw c.in-Map.is refl }))
+loop-i-preserved-in-Map c = let v = c.loop-i.invariant in (omega (arith, c.loop-i-test.true), omega (arith, v.1), going_on Publish _ _ v.2 (from_here _ _ 0 c.loop-i-test.true) (record { answer = _; promise = c.publish_len-mapped.ensures; map = rw c.in-Map.is refl; count = rw c.in-Map.is refl }))
 
 pub loop-i-smaller : goal.loop-i-smaller
 loop-i-smaller c = omega (arith, c.loop-i-test.true)
 
 pub loop-i-preserved : goal.loop-i-preserved
-loop-i-preserved c = let v = c.loop-i.invariant in (omega (arith, c.loop-i-test.true), omega (arith, v.1), going_on Publish _ _ v.2 (from-here _ _ 0 c.loop-i-test.true) (record { answer = _; promise = c.publish_len-mapped.ensures; map = rw c.in-Refused.is refl; count = rw c.in-Refused.is (omega arith) }))
+loop-i-preserved c = let v = c.loop-i.invariant in (omega (arith, c.loop-i-test.true), omega (arith, v.1), going_on Publish _ _ v.2 (from_here _ _ 0 c.loop-i-test.true) (record { answer = _; promise = c.publish_len-mapped.ensures; map = rw c.in-Refused.is refl; count = rw c.in-Refused.is (omega arith) }))
 
 pub returns : goal.returns
-returns c = rw c.hand_out.ensures.map (going-ends Publish _ _ c.loop-i.invariant.2 (drop_of_length-le _ c.loop-i-test.false))
+returns c = rw c.hand_out.ensures.map (going_ends Publish _ _ c.loop-i.invariant.2 (drop_of_length-le _ c.loop-i-test.false))

@@ -6,8 +6,8 @@ use Rattle.footprint.specs.Footprint.{ranges, footprint_of}
 use Rattle.footprint.specs.Inner.{neighbours_meet}
 use Rattle.numbers.specs.Pairs.{pairs, flat}
 use Rattle.footprint.proofs.Laying.{laid_out}
-use Rattle.numbers.proofs.Pairs.{pairs-flat}
-use Rattle.sort.proofs.Laws.{sorted-ascending}
+use Rattle.numbers.proofs.Pairs.{pairs_flat}
+use Rattle.sort.proofs.Laws.{sorted_ascending}
 use Rattle.footprint.proofs.layout.lay_out.Goals as goal
 use Rattle.footprint.proofs.layout.lay_out.Goals.{After-sort_pairs-sorted}
 
@@ -36,7 +36,7 @@ pub copy-requires : goal.copy-requires
 copy-requires c = let l = c.requires.1 in let h = c.requires.2 in (simp length-set (omega arith), simp length-set (omega arith))
 
 pub overlapping-requires : goal.overlapping-requires
-overlapping-requires c = let a = c.args in rw (laid (goal.at.overlapping-requires c).After-sort_pairs-sorted, pairs-flat) (sorted-ascending (ranges a.limits a.entry a.extents.now))
+overlapping-requires c = let a = c.args in rw (laid (goal.at.overlapping-requires c).After-sort_pairs-sorted, pairs_flat) (sorted_ascending (ranges a.limits a.entry a.extents.now))
 
 pub shape_of-s : goal.shape_of-s
 shape_of-s c = c.sort_pairs-sorted.auto.s ∙ c.copy.auto.s ∙ simp length-set
@@ -44,4 +44,4 @@ shape_of-s c = c.sort_pairs-sorted.auto.s ∙ c.copy.auto.s ∙ simp length-set
 pub returns : goal.returns
 returns c = let a = c.args in
     let e = laid (goal.at.returns c).After-sort_pairs-sorted in
-    record { slots = e; answer = c.overlapping.ensures ∙ ap neighbours_meet (ap pairs e ∙ pairs-flat (footprint_of a.limits a.entry a.extents.now)) }
+    record { slots = e; answer = c.overlapping.ensures ∙ ap neighbours_meet (ap pairs e ∙ pairs_flat (footprint_of a.limits a.entry a.extents.now)) }

@@ -15,14 +15,14 @@ span : (c : Else-entry-limits) → span_fails c.args.limits c.args.entry ≡ fal
 unfolding span_fails
 span c = simp (le-ltb _ _ c.if-limits-entry.false, le-ltb _ _ c.if-entry.false, le-ltb _ _ c.if-entry-limits.false)
 
-told-a : (c : After-misplaced) → block_fails (block_of c.args.limits) c.args.entry c.args.entry.header_a ≡ c.misplaced.result
-told-a c = rw (← c.block_of-block.ensures) (sym c.misplaced.ensures)
+told_a : (c : After-misplaced) → block_fails (block_of c.args.limits) c.args.entry c.args.entry.header_a ≡ c.misplaced.result
+told_a c = rw (← c.block_of-block.ensures) (sym c.misplaced.ensures)
 
-told-b : (c : After-misplaced-2) → block_fails (block_of c.args.limits) c.args.entry c.args.entry.header_b ≡ c.misplaced-2.result
-told-b c = rw (← c.block_of-block.ensures) (sym c.misplaced-2.ensures)
+told_b : (c : After-misplaced-2) → block_fails (block_of c.args.limits) c.args.entry c.args.entry.header_b ≡ c.misplaced-2.result
+told_b c = rw (← c.block_of-block.ensures) (sym c.misplaced-2.ensures)
 
-told-near : (c : After-near) → near (block_of c.args.limits) c.args.entry.header_a c.args.entry.header_b ≡ c.near.result
-told-near c = rw (← c.block_of-block.ensures) (sym c.near.ensures)
+told_near : (c : After-near) → near (block_of c.args.limits) c.args.entry.header_a c.args.entry.header_b ≡ c.near.result
+told_near c = rw (← c.block_of-block.ensures) (sym c.near.ensures)
 
 abbrev headers_fail : Limits → Entry → Bool
 headers_fail lim e = span_fails lim e || block_fails (block_of lim) e e.header_a || block_fails (block_of lim) e e.header_b || near (block_of lim) e.header_a e.header_b
@@ -56,18 +56,18 @@ misplaced-requires c = rw c.block_of-block.ensures (pow_pos _)
 
 pub returns-then-misplaced : goal.returns-then-misplaced
 unfolding entry_fails
-returns-then-misplaced c = simp (span (goal.at.returns-then-misplaced c).Else-entry-limits, told-a (goal.at.returns-then-misplaced c).After-misplaced ∙ c.if-misplaced.true)
+returns-then-misplaced c = simp (span (goal.at.returns-then-misplaced c).Else-entry-limits, told_a (goal.at.returns-then-misplaced c).After-misplaced ∙ c.if-misplaced.true)
 
 pub misplaced-requires-2 : goal.misplaced-requires-2
 misplaced-requires-2 c = rw c.block_of-block.ensures (pow_pos _)
 
 pub returns-then-misplaced-2 : goal.returns-then-misplaced-2
 unfolding entry_fails
-returns-then-misplaced-2 c = simp (span (goal.at.returns-then-misplaced-2 c).Else-entry-limits, told-a (goal.at.returns-then-misplaced-2 c).After-misplaced ∙ c.if-misplaced.false, told-b (goal.at.returns-then-misplaced-2 c).After-misplaced-2 ∙ c.if-misplaced-2.true)
+returns-then-misplaced-2 c = simp (span (goal.at.returns-then-misplaced-2 c).Else-entry-limits, told_a (goal.at.returns-then-misplaced-2 c).After-misplaced ∙ c.if-misplaced.false, told_b (goal.at.returns-then-misplaced-2 c).After-misplaced-2 ∙ c.if-misplaced-2.true)
 
 pub returns-then-near : goal.returns-then-near
 unfolding entry_fails
-returns-then-near c = simp (span (goal.at.returns-then-near c).Else-entry-limits, told-a (goal.at.returns-then-near c).After-misplaced ∙ c.if-misplaced.false, told-b (goal.at.returns-then-near c).After-misplaced-2 ∙ c.if-misplaced-2.false, told-near (goal.at.returns-then-near c).After-near ∙ c.if-near.true)
+returns-then-near c = simp (span (goal.at.returns-then-near c).Else-entry-limits, told_a (goal.at.returns-then-near c).After-misplaced ∙ c.if-misplaced.false, told_b (goal.at.returns-then-near c).After-misplaced-2 ∙ c.if-misplaced-2.false, told_near (goal.at.returns-then-near c).After-near ∙ c.if-near.true)
 
 pub returns-then-entry-2 : goal.returns-then-entry-2
 unfolding entry_fails

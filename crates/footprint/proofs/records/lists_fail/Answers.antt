@@ -6,12 +6,12 @@ use lib.ListN.{length}
 use borrow.Author.Tests.{lt-ltb, le-ltb, eq-eqb, ne_eqb}
 use Rattle.footprint.specs.Footprint.{lists_fail, max_extents}
 use Rattle.numbers.specs.Pairs.{pairs, is_odd}
-use Rattle.numbers.proofs.Pairs.{length_pairs, odd-list, even-list}
+use Rattle.numbers.proofs.Pairs.{length_pairs, odd_list, even_list}
 use Rattle.footprint.proofs.records.lists_fail.Goals as goal
 use Rattle.footprint.proofs.records.lists_fail.Goals.{Else-committed-most, Else-extents-listed, Else-extents-ne0}
 
 even : (c : Else-extents-ne0) → is_odd c.args.extents.now ≡ false
-even c = even-list c.args.extents.now c.if-extents-ne0.false
+even c = even_list c.args.extents.now c.if-extents-ne0.false
 
 listed : (c : Else-extents-listed) → eqb (length (pairs c.args.extents.now)) c.args.header.extent_count ≡ true
 listed c = eq-eqb _ _ (length_pairs _ ∙ c.if-extents-listed.false)
@@ -21,7 +21,7 @@ few c = rw (← c.max_extents-most.ensures) (le-ltb _ _ c.if-committed-most.fals
 
 pub returns-then-extents-ne0 : goal.returns-then-extents-ne0
 unfolding lists_fail
-returns-then-extents-ne0 c = simp (odd-list c.args.extents.now c.if-extents-ne0.true)
+returns-then-extents-ne0 c = simp (odd_list c.args.extents.now c.if-extents-ne0.true)
 
 pub returns-then-extents-listed : goal.returns-then-extents-listed
 unfolding lists_fail

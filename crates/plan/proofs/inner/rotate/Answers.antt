@@ -3,7 +3,7 @@ use mathlib.Core.Path.{◌≡◌, refl}
 use native.Mathlib.Omega.{arith}
 use lib.ListN.{length, length-take}
 use Rattle.plan_record.specs.Plan.{regions_of}
-use Rattle.plan.proofs.Moving.{moving-begins, moving-turns, rotated-is}
+use Rattle.plan.proofs.Moving.{moving_begins, moving_turns, rotated_is}
 use Rattle.plan.proofs.inner.rotate.Goals as goal
 use Rattle.plan.proofs.inner.rotate.Goals.{Start}
 
@@ -26,11 +26,11 @@ pub overflow_sub-last : goal.overflow_sub-last
 overflow_sub-last c = omega (arith, c.requires, c.counted-last.ensures.0)
 
 pub loop-j-init : goal.loop-j-init
-loop-j-init c = (moving-begins (omega (arith, c.requires, c.counted-last.ensures.0)) (omega (arith, full (goal.at.loop-j-init c).Start, c.counted-last.ensures.1, c.requires, c.counted-last.ensures.0)), refl, refl, refl, omega (arith, c.counted-last.ensures.1, c.requires, c.counted-last.ensures.0), full (goal.at.loop-j-init c).Start)
+loop-j-init c = (moving_begins (omega (arith, c.requires, c.counted-last.ensures.0)) (omega (arith, full (goal.at.loop-j-init c).Start, c.counted-last.ensures.1, c.requires, c.counted-last.ensures.0)), refl, refl, refl, omega (arith, c.counted-last.ensures.1, c.requires, c.counted-last.ensures.0), full (goal.at.loop-j-init c).Start)
 
 pub loop-j-preserved : goal.loop-j-preserved
-loop-j-preserved c = (moving-turns c.loop-j.invariant.0 (omega arith), c.loop-j.invariant.1, c.loop-j.invariant.2, c.loop-j.invariant.3, c.loop-j.invariant.4, c.loop-j.invariant.5)
+loop-j-preserved c = (moving_turns c.loop-j.invariant.0 (omega arith), c.loop-j.invariant.1, c.loop-j.invariant.2, c.loop-j.invariant.3, c.loop-j.invariant.4, c.loop-j.invariant.5)
 
 pub returns : goal.returns
 returns c =
-    rotated-is c.args.plan c.loop-j.plan _ _ _ c.counted-last.ensures.0 (omega (arith, c.requires, c.counted-last.ensures.0)) c.loop-j.invariant.0 (omega arith) c.loop-j.invariant.1 c.loop-j.invariant.2 c.loop-j.invariant.3
+    rotated_is c.args.plan c.loop-j.plan _ _ _ c.counted-last.ensures.0 (omega (arith, c.requires, c.counted-last.ensures.0)) c.loop-j.invariant.0 (omega arith) c.loop-j.invariant.1 c.loop-j.invariant.2 c.loop-j.invariant.3

@@ -1,15 +1,15 @@
 -- `plan_open::build::build` meets its contract: the parts of the plan make up the world.
-use Rattle.plan_open.proofs.Whole.{build-few, build-log, build-fits, built}
+use Rattle.plan_open.proofs.Whole.{build_few, build_log, build_fits, built}
 use Rattle.plan_open.proofs.build.build.Goals as goal
 
 pub fill-plan-requires : goal.fill-plan-requires
-fill-plan-requires c = (build-few c.requires, build-fits c.requires)
+fill-plan-requires c = (build_few c.requires, build_fits c.requires)
 
 pub highest_seq-requires : goal.highest_seq-requires
-highest_seq-requires c = build-few c.requires
+highest_seq-requires c = build_few c.requires
 
 pub accounts_of-plan-requires : goal.accounts_of-plan-requires
-accounts_of-plan-requires c = (build-log c.requires, build-few c.requires)
+accounts_of-plan-requires c = (build_log c.requires, build_few c.requires)
 
 pub returns : goal.returns
 returns c =

@@ -2,11 +2,11 @@
 use mathlib.Core.Path.{ap}
 use native.Mathlib.Omega.{arith}
 use Rattle.plan_record.specs.declared.Plan.{Plan}
-use Rattle.plan_open.proofs.Looping.{row-begins, row_on, row_ends}
+use Rattle.plan_open.proofs.Looping.{row_begins, row_on, row_ends}
 use Rattle.plan_open.proofs.build.rows.Goals as goal
 
 pub loop-i-init : goal.loop-i-init
-loop-i-init c = row-begins _ (ap (λ (p : Plan). p.regions) c.blank-plan.ensures)
+loop-i-init c = row_begins _ (ap (λ (p : Plan). p.regions) c.blank-plan.ensures)
 
 pub offset_bounds-plan-i : goal.offset_bounds-plan-i
 offset_bounds-plan-i c = let h = c.loop-i-test.true in let g = c.loop-i.invariant in omega (arith, g.full)

@@ -1,7 +1,7 @@
 use Prim.Native.Nat.{ℕ, ◌*◌}
 use mathlib.Core.Path.{ap}
 use native.Mathlib.Omega.{arith}
-use Rattle.plan_record.proofs.Holding.{held-told, summing-begins, summing-turns}
+use Rattle.plan_record.proofs.Holding.{held_told, summing_begins, summing_turns}
 use Rattle.plan_record.proofs.Plan.held.Goals as goal
 
 pub counted-n-requires : goal.counted-n-requires
@@ -14,7 +14,7 @@ pub overflow_mul-two : goal.overflow_mul-two
 overflow_mul-two c = omega (arith, c.block_of-two.ensures.1)
 
 pub loop-i-init : goal.loop-i-init
-loop-i-init c = summing-begins _ _ c.counted-n.ensures.0
+loop-i-init c = summing_begins _ _ c.counted-n.ensures.0
 
 pub offset_bounds-self-i : goal.offset_bounds-self-i
 offset_bounds-self-i c = omega (arith, c.counted-n.ensures.1)
@@ -33,7 +33,7 @@ overflow_add-i c = omega (arith, c.counted-n.ensures.1)
 
 pub loop-i-preserved : goal.loop-i-preserved
 loop-i-preserved c =
-    summing-turns c.loop-i.invariant _ _ _ (omega arith) (ap (λ (n : ℕ). 2 * n) c.block_of-two.ensures.0) c.add_stop.ensures c.add_stop-sum.ensures
+    summing_turns c.loop-i.invariant _ _ _ (omega arith) (ap (λ (n : ℕ). 2 * n) c.block_of-two.ensures.0) c.add_stop.ensures c.add_stop-sum.ensures
 
 pub returns : goal.returns
-returns c = held-told c.loop-i.invariant (omega arith)
+returns c = held_told c.loop-i.invariant (omega arith)

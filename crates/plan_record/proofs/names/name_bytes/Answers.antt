@@ -1,15 +1,15 @@
 use native.Mathlib.Omega.{arith}
-use Rattle.plan_record.proofs.Naming.{copied-begins, copied-turns, copied-ends}
+use Rattle.plan_record.proofs.Naming.{copied_begins, copied_turns, copied_ends}
 use Rattle.plan_record.proofs.names.name_bytes.Goals as goal
 
 pub loop-k-init : goal.loop-k-init
-loop-k-init c = copied-begins _
+loop-k-init c = copied_begins _
 
 pub returns-then-k-ge24 : goal.returns-then-k-ge24
 returns-then-k-ge24 c = λ l. absurd (omega arith)
 
 pub loop-k-preserved : goal.loop-k-preserved
-loop-k-preserved c = copied-turns c.loop-k.invariant (omega arith) (omega arith)
+loop-k-preserved c = copied_turns c.loop-k.invariant (omega arith) (omega arith)
 
 pub returns : goal.returns
-returns c = λ l. copied-ends c.loop-k.invariant (omega arith) l
+returns c = λ l. copied_ends c.loop-k.invariant (omega arith) l

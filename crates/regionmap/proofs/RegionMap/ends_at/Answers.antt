@@ -3,11 +3,11 @@ use Prim.Native.Nat.{ℕ, ◌<◌}
 use mathlib.Core.Path.{ap, sym, ◌∙◌}
 use native.Mathlib.Omega.{arith}
 use lib.Dec.{eqb}
-use Rattle.regionmap.proofs.Means.{end-first, end_later}
+use Rattle.regionmap.proofs.Means.{end_first, end_later}
 use Rattle.regionmap.proofs.RegionMap.ends_at.Goals as goal
 
 pub returns-then-count-eq0 : goal.returns-then-count-eq0
-returns-then-count-eq0 c = let a = c.args in c.meets.ensures ∙ ap (λ (e : ℕ). eqb e a.file) (sym (rw c.if-count-eq0.true (end-first _ _ a.starts.now a.files.now)))
+returns-then-count-eq0 c = let a = c.args in c.meets.ensures ∙ ap (λ (e : ℕ). eqb e a.file) (sym (rw c.if-count-eq0.true (end_first _ _ a.starts.now a.files.now)))
 
 pub overflow_sub-count : goal.overflow_sub-count
 overflow_sub-count c = let h = c.requires in omega (arith, c.if-count-eq0.false, h.0, h.1)

@@ -8,14 +8,14 @@ use borrow.Author.Tests.{eq-eqb, ne_eqb, ltb-false}
 use Rattle.numbers.specs.Range.{range}
 use Rattle.numbers.specs.Sums.{top}
 use Rattle.regionmap.specs.Map.{placement_of, passes_top}
-use Rattle.regionmap.proofs.Growing.{extend-few, extend-outside, extend-over, extend-full, extend-refused, extend-joins, extend-takes}
-use Rattle.regionmap.proofs.Lookup.{Enough, lists-pass, lists-fail, runs-length}
+use Rattle.regionmap.proofs.Growing.{extend_few, extend_outside, extend_over, extend_full, extend_refused, extend_joins, extend_takes}
+use Rattle.regionmap.proofs.Lookup.{Enough, lists_pass, lists-fail, runs_length}
 use Rattle.regionmap.proofs.RegionMap.extend.Goals as goal
 use Rattle.regionmap.proofs.RegionMap.extend.Goals.{Else-lists_fail, Else-passes, Else-passes-2}
 
 -- what the tests up to a place have shown
 enough : (c : Else-lists_fail) → Enough c.args.self c.args.starts.now c.args.files.now
-enough c = lists-pass _ _ _ (sym c.lists_fail.ensures ∙ c.if-lists_fail.false)
+enough c = lists_pass _ _ _ (sym c.lists_fail.ensures ∙ c.if-lists_fail.false)
 
 below : (c : Else-passes) → (eqb c.args.n 0 || passes_top (range c.args.file c.args.n)) ≡ false
 unfolding passes_top
@@ -31,17 +31,17 @@ whole : (c : Else-passes-2) → c.args.self.capacity + c.args.n ≤ top
 whole c = ltb-false _ _ (sums c)
 
 pub returns-then-lists_fail : goal.returns-then-lists_fail
-returns-then-lists_fail c = let a = c.args in extend-refused _ _ _ _ _ 1 (λ z. omega arith) (λ v. extend-few (placement_of a.self _ _) _ _ _ _ (lists-fail _ _ _ v (sym c.lists_fail.ensures ∙ c.if-lists_fail.true)))
+returns-then-lists_fail c = let a = c.args in extend_refused _ _ _ _ _ 1 (λ z. omega arith) (λ v. extend_few (placement_of a.self _ _) _ _ _ _ (lists-fail _ _ _ v (sym c.lists_fail.ensures ∙ c.if-lists_fail.true)))
 
 pub returns-then-n-eq0 : goal.returns-then-n-eq0
-returns-then-n-eq0 c = let a = c.args in extend-refused a.self a.file _ _ _ 11 (λ z. omega arith) (λ v. extend-outside (placement_of a.self _ _) _ _ _ _ (enough (goal.at.returns-then-n-eq0 c).Else-lists_fail).places (simp (eq-eqb _ _ c.if-n-eq0.true)))
+returns-then-n-eq0 c = let a = c.args in extend_refused a.self a.file _ _ _ 11 (λ z. omega arith) (λ v. extend_outside (placement_of a.self _ _) _ _ _ _ (enough (goal.at.returns-then-n-eq0 c).Else-lists_fail).places (simp (eq-eqb _ _ c.if-n-eq0.true)))
 
 pub returns-then-passes : goal.returns-then-passes
 unfolding passes_top
-returns-then-passes c = let a = c.args in extend-refused a.self a.file _ _ _ 11 (λ z. omega arith) (λ v. extend-outside (placement_of a.self _ _) _ _ _ _ (enough (goal.at.returns-then-passes c).Else-lists_fail).places (simp (ne_eqb _ _ c.if-n-eq0.false, sym c.passes.ensures ∙ c.if-passes.true)))
+returns-then-passes c = let a = c.args in extend_refused a.self a.file _ _ _ 11 (λ z. omega arith) (λ v. extend_outside (placement_of a.self _ _) _ _ _ _ (enough (goal.at.returns-then-passes c).Else-lists_fail).places (simp (ne_eqb _ _ c.if-n-eq0.false, sym c.passes.ensures ∙ c.if-passes.true)))
 
 pub returns-then-passes-2 : goal.returns-then-passes-2
-returns-then-passes-2 c = let a = c.args in extend-refused a.self a.file _ _ _ 12 (λ z. omega arith) (λ v. extend-over (placement_of a.self _ _) _ _ _ _ (enough (goal.at.returns-then-passes-2 c).Else-lists_fail).places (below (goal.at.returns-then-passes-2 c).Else-passes) (sym c.passes-2.ensures ∙ c.if-passes-2.true))
+returns-then-passes-2 c = let a = c.args in extend_refused a.self a.file _ _ _ 12 (λ z. omega arith) (λ v. extend_over (placement_of a.self _ _) _ _ _ _ (enough (goal.at.returns-then-passes-2 c).Else-lists_fail).places (below (goal.at.returns-then-passes-2 c).Else-passes) (sym c.passes-2.ensures ∙ c.if-passes-2.true))
 
 pub overflow_add-map : goal.overflow_add-map
 overflow_add-map c = let h = whole (goal.at.overflow_add-map c).Else-passes-2 in omega arith
@@ -50,10 +50,10 @@ pub ends_at-requires : goal.ends_at-requires
 ends_at-requires c = let e = enough (goal.at.ends_at-requires c).Else-lists_fail in (e.starts, e.files)
 
 pub returns-then-ends_at : goal.returns-then-ends_at
-returns-then-ends_at c = let a = c.args in extend-joins a.self a.file a.n _ _ (enough (goal.at.returns-then-ends_at c).Else-lists_fail) (below (goal.at.returns-then-ends_at c).Else-passes) (sums (goal.at.returns-then-ends_at c).Else-passes-2) (ends (goal.at.returns-then-ends_at c).Else-passes) (whole (goal.at.returns-then-ends_at c).Else-passes-2) (sym c.ends_at.ensures ∙ c.if-ends_at.true)
+returns-then-ends_at c = let a = c.args in extend_joins a.self a.file a.n _ _ (enough (goal.at.returns-then-ends_at c).Else-lists_fail) (below (goal.at.returns-then-ends_at c).Else-passes) (sums (goal.at.returns-then-ends_at c).Else-passes-2) (ends (goal.at.returns-then-ends_at c).Else-passes) (whole (goal.at.returns-then-ends_at c).Else-passes-2) (sym c.ends_at.ensures ∙ c.if-ends_at.true)
 
 pub returns-then-count-self : goal.returns-then-count-self
-returns-then-count-self c = let a = c.args in extend-refused a.self a.file _ _ _ 19 (λ z. omega arith) (λ v. extend-full (placement_of a.self _ _) _ _ _ _ (enough (goal.at.returns-then-count-self c).Else-lists_fail).places (below (goal.at.returns-then-count-self c).Else-passes) (sums (goal.at.returns-then-count-self c).Else-passes-2) (sym c.ends_at.ensures ∙ c.if-ends_at.false) (omega (arith, runs-length _ _ _ v, c.if-count-self.true)))
+returns-then-count-self c = let a = c.args in extend_refused a.self a.file _ _ _ 19 (λ z. omega arith) (λ v. extend_full (placement_of a.self _ _) _ _ _ _ (enough (goal.at.returns-then-count-self c).Else-lists_fail).places (below (goal.at.returns-then-count-self c).Else-passes) (sums (goal.at.returns-then-count-self c).Else-passes-2) (sym c.ends_at.ensures ∙ c.if-ends_at.false) (omega (arith, runs_length _ _ _ v, c.if-count-self.true)))
 
 pub offset_bounds-starts-count : goal.offset_bounds-starts-count
 offset_bounds-starts-count c = let e = enough (goal.at.offset_bounds-starts-count c).Else-lists_fail in omega (arith, e.room, e.wide.0, e.wide.1, c.if-count-self.false)
@@ -71,4 +71,4 @@ pub overflow_add-map-2 : goal.overflow_add-map-2
 overflow_add-map-2 c = let e = enough (goal.at.overflow_add-map-2 c).Else-lists_fail in omega (arith, e.room, e.wide.0, e.wide.1, c.if-count-self.false)
 
 pub returns : goal.returns
-returns c = let a = c.args in let e = enough (goal.at.returns c).Else-lists_fail in extend-takes a.self a.file a.n _ _ e (below (goal.at.returns c).Else-passes) (sums (goal.at.returns c).Else-passes-2) (ends (goal.at.returns c).Else-passes) (whole (goal.at.returns c).Else-passes-2) (sym c.ends_at.ensures ∙ c.if-ends_at.false) c.if-count-self.false (omega (arith, e.room, e.wide.0, c.if-count-self.false)) (omega (arith, e.room, e.wide.1, c.if-count-self.false))
+returns c = let a = c.args in let e = enough (goal.at.returns c).Else-lists_fail in extend_takes a.self a.file a.n _ _ e (below (goal.at.returns c).Else-passes) (sums (goal.at.returns c).Else-passes-2) (ends (goal.at.returns c).Else-passes) (whole (goal.at.returns c).Else-passes-2) (sym c.ends_at.ensures ∙ c.if-ends_at.false) c.if-count-self.false (omega (arith, e.room, e.wide.0, c.if-count-self.false)) (omega (arith, e.room, e.wide.1, c.if-count-self.false))

@@ -9,17 +9,17 @@ use Rattle.numbers.specs.Pairs.{pairs}
 use Rattle.numbers.specs.Range.{range, blank}
 use Rattle.numbers.specs.Sums.{top}
 use Rattle.regionmap.specs.Map.{passes_top}
-use Rattle.numbers.proofs.Pairs.{length_pairs, pair-in, pair-at}
-use Rattle.numbers.proofs.Refusals.{Walked, walk_begins, walk-outside, walk-over, walk-on, walk_ends, walk-sum}
+use Rattle.numbers.proofs.Pairs.{length_pairs, pair_in, pair_at}
+use Rattle.numbers.proofs.Refusals.{Walked, walk_begins, walk_outside, walk_over, walk_on, walk_ends, walk_sum}
 use Rattle.regionmap.proofs.build.measure.Goals as goal
 
 -- the extent at which the walk stands
 module _ (xs : List ℕ) {n i s : ℕ} (g : Walked passes_top (pairs xs) n i s) (l : i < n) where
   inside : 2 * i + 1 < length xs
-  inside = pair-in xs i (omega (arith, g.all))
+  inside = pair_in xs i (omega (arith, g.all))
 
   at : get_or (pairs xs) i blank ≡ range (get_or xs (2 * i) 0) (get_or xs (2 * i + 1) 0)
-  at = pair-at xs i inside
+  at = pair_at xs i inside
 
 pub loop-i-init : goal.loop-i-init
 loop-i-init c = walk_begins passes_top (pairs _) _ (sym (length_pairs _))
@@ -47,11 +47,11 @@ bounds-extents-i-in-loop-i c = let h = inside _ c.loop-i.invariant c.loop-i-test
 
 pub returns-then-passes : goal.returns-then-passes
 unfolding passes_top
-returns-then-passes c = record { number = sym (walk-outside c.loop-i.invariant c.loop-i-test.true _ (at _ c.loop-i.invariant c.loop-i-test.true) (sym c.passes.ensures ∙ c.if-passes.true)); sum = λ z. absurd (omega arith) }
+returns-then-passes c = record { number = sym (walk_outside c.loop-i.invariant c.loop-i-test.true _ (at _ c.loop-i.invariant c.loop-i-test.true) (sym c.passes.ensures ∙ c.if-passes.true)); sum = λ z. absurd (omega arith) }
 
 pub returns-then-passes-2 : goal.returns-then-passes-2
 unfolding passes_top
-returns-then-passes-2 c = record { number = sym (walk-over c.loop-i.invariant c.loop-i-test.true _ (at _ c.loop-i.invariant c.loop-i-test.true) (sym c.passes.ensures ∙ c.if-passes.false) (sym c.passes-in-loop-i.ensures ∙ c.if-passes-2.true)); sum = λ z. absurd (omega arith) }
+returns-then-passes-2 c = record { number = sym (walk_over c.loop-i.invariant c.loop-i-test.true _ (at _ c.loop-i.invariant c.loop-i-test.true) (sym c.passes.ensures ∙ c.if-passes.false) (sym c.passes-in-loop-i.ensures ∙ c.if-passes-2.true)); sum = λ z. absurd (omega arith) }
 
 pub overflow_add-bytes : goal.overflow_add-bytes
 overflow_add-bytes c = let h : c.loop-i.bytes + get_or c.args.extents.now (2 * c.loop-i.i + 1) 0 ≤ top = ltb-false _ _ (sym c.passes-in-loop-i.ensures ∙ c.if-passes-2.false) in omega arith
@@ -61,7 +61,7 @@ overflow_add-i c = let h = inside _ c.loop-i.invariant c.loop-i-test.true in ome
 
 pub loop-i-preserved : goal.loop-i-preserved
 unfolding passes_top
-loop-i-preserved c = walk-on c.loop-i.invariant c.loop-i-test.true _ (at _ c.loop-i.invariant c.loop-i-test.true) (sym c.passes.ensures ∙ c.if-passes.false) (sym c.passes-in-loop-i.ensures ∙ c.if-passes-2.false)
+loop-i-preserved c = walk_on c.loop-i.invariant c.loop-i-test.true _ (at _ c.loop-i.invariant c.loop-i-test.true) (sym c.passes.ensures ∙ c.if-passes.false) (sym c.passes-in-loop-i.ensures ∙ c.if-passes-2.false)
 
 pub returns : goal.returns
-returns c = record { number = sym (walk_ends c.loop-i.invariant c.loop-i-test.false); sum = λ z. walk-sum c.loop-i.invariant c.loop-i-test.false }
+returns c = record { number = sym (walk_ends c.loop-i.invariant c.loop-i-test.false); sum = λ z. walk_sum c.loop-i.invariant c.loop-i-test.false }

@@ -6,7 +6,7 @@ use native.Mathlib.Omega.{arith}
 use borrow.Author.Tests.{eq-eqb, ne_eqb, le-leb}
 use Rattle.runs.specs.Runs.{joins}
 use Rattle.numbers.specs.Sums.{top}
-use Rattle.numbers.proofs.Cases.{not-above}
+use Rattle.numbers.proofs.Cases.{not_above}
 use Rattle.runs.proofs.join.follows.Goals as goal
 
 pub returns-then-next-len : goal.returns-then-next-len
@@ -28,4 +28,4 @@ returns c = let a = c.args in
     let n = c.if-next-len-2.false in
     let e : a.file + a.len ≡ a.next = omega arith in
     let b : a.file + a.len ≤ top = omega arith in
-    ap not c.passes.ensures ∙ simp (eq-eqb _ _ e, le-leb _ _ b) (not-above (a.len + a.more) top)
+    ap not c.passes.ensures ∙ simp (eq-eqb _ _ e, le-leb _ _ b) (not_above (a.len + a.more) top)

@@ -4,11 +4,11 @@ use mathlib.Core.List.{map-id}
 use mathlib.Core.Path.{ap, ◌∙◌}
 use native.Mathlib.Nat.{zero-add}
 use native.Mathlib.Omega.{arith}
-use Rattle.sample.proofs.Parts.{copy-begins, copy-on, copy-ends}
+use Rattle.sample.proofs.Parts.{copy_begins, copy_on, copy_ends}
 use Rattle.sample.proofs.words.copied.Goals as goal
 
 pub loop-i-init : goal.loop-i-init
-loop-i-init c = copy-begins _ c.args.numbers.now _ _ c.first-fitting.ensures
+loop-i-init c = copy_begins _ c.args.numbers.now _ _ c.first-fitting.ensures
 
 pub offset_bounds-room-i : goal.offset_bounds-room-i
 offset_bounds-room-i c = omega (arith, c.loop-i.invariant.enough)
@@ -17,13 +17,13 @@ pub bounds-room-i : goal.bounds-room-i
 bounds-room-i c = omega (arith, c.loop-i.invariant.enough)
 
 pub loop-i-preserved : goal.loop-i-preserved
-loop-i-preserved c = copy-on c.loop-i.invariant c.loop-i-test.true
+loop-i-preserved c = copy_on c.loop-i.invariant c.loop-i-test.true
 
 pub slice_bounds-room-end : goal.slice_bounds-room-end
 slice_bounds-room-end c = omega (arith, c.loop-i.invariant.enough, c.loop-i.invariant.below)
 
 pub returns : goal.returns
 returns c = record {
-  result_value = copy-ends c.loop-i.invariant c.loop-i-test.false ∙ map-id _ ∙ c.first-fitting.ensures;
+  result_value = copy_ends c.loop-i.invariant c.loop-i-test.false ∙ map-id _ ∙ c.first-fitting.ensures;
   ref_ptr_value = ap (λ (o : ℕ). (c.args.room.ref_ptr.0, o)) (zero-add _);
 }

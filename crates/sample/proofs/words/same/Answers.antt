@@ -1,14 +1,14 @@
 -- `sample::words::same` meets its contract: the first i numbers are the same.
 use native.Mathlib.Omega.{arith}
 use lib.ListN.{length}
-use Rattle.sample.proofs.Parts.{match-begins, match-on, match-ends, match-stops, not_same}
+use Rattle.sample.proofs.Parts.{match_begins, match_on, match_ends, match_stops, not_same}
 use Rattle.sample.proofs.words.same.Goals as goal
 
 pub returns-then-a-b : goal.returns-then-a-b
 returns-then-a-b c = not_same length c.args.a.now c.args.b.now c.if-a-b.true
 
 pub loop-i-init : goal.loop-i-init
-loop-i-init c = match-begins c.args.a.now c.args.b.now c.if-a-b.false
+loop-i-init c = match_begins c.args.a.now c.args.b.now c.if-a-b.false
 
 pub offset_bounds-a-i : goal.offset_bounds-a-i
 offset_bounds-a-i c = omega (arith, c.loop-i.invariant.long, c.loop-i-test.true)
@@ -23,7 +23,7 @@ pub bounds-b-i : goal.bounds-b-i
 bounds-b-i c = omega (arith, c.loop-i.invariant.long, c.loop-i-test.true)
 
 pub returns-then-a-i : goal.returns-then-a-i
-returns-then-a-i c = match-stops c.loop-i.invariant c.if-a-i.true
+returns-then-a-i c = match_stops c.loop-i.invariant c.if-a-i.true
 
 pub overflow_add-i : goal.overflow_add-i
 overflow_add-i c = omega (arith, c.loop-i.invariant.long, c.loop-i-test.true)
@@ -32,7 +32,7 @@ pub loop-i-smaller : goal.loop-i-smaller
 loop-i-smaller c = omega (arith, c.loop-i.invariant.long, c.loop-i-test.true)
 
 pub loop-i-preserved : goal.loop-i-preserved
-loop-i-preserved c = match-on c.loop-i.invariant c.loop-i-test.true c.if-a-i.false
+loop-i-preserved c = match_on c.loop-i.invariant c.loop-i-test.true c.if-a-i.false
 
 pub returns : goal.returns
-returns c = match-ends c.loop-i.invariant c.loop-i-test.false
+returns c = match_ends c.loop-i.invariant c.loop-i-test.false

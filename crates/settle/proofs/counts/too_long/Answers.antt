@@ -1,12 +1,12 @@
 -- `settle::counts::too_long` meets its contract: each return is the case that its tests chose.
-use Rattle.settle.proofs.Refusing.{name-short, name-none, name-long}
+use Rattle.settle.proofs.Refusing.{name_short, name_none, name_long}
 use Rattle.settle.proofs.counts.too_long.Goals as goal
 
 pub returns-then-len-le24 : goal.returns-then-len-le24
-returns-then-len-le24 c = name-short _ _ c.if-len-le24.true
+returns-then-len-le24 c = name_short _ _ c.if-len-le24.true
 
 pub returns-then-unnamed : goal.returns-then-unnamed
-returns-then-unnamed c = name-none _ _ c.if-len-le24.false c.if-unnamed.true
+returns-then-unnamed c = name_none _ _ c.if-len-le24.false c.if-unnamed.true
 
 pub returns : goal.returns
-returns c = name-long _ _ c.if-len-le24.false c.if-unnamed.false
+returns c = name_long _ _ c.if-len-le24.false c.if-unnamed.false

@@ -1,11 +1,11 @@
 -- `settle::sweep::mark_above` meets its contract: a mark that is set stays.
 use mathlib.Core.Bool.{not}
 use mathlib.Core.Path.{ap}
-use Rattle.settle.proofs.Sweeping.{mark-new, mark-kept}
+use Rattle.settle.proofs.Sweeping.{mark_new, mark_kept}
 use Rattle.settle.proofs.sweep.mark_above.Goals as goal
 
 pub returns-then-not-marks-i : goal.returns-then-not-marks-i
-returns-then-not-marks-i c = mark-new c.args.marks.now _ _ _ (ap not c.if-not-marks-i.true) c.above.ensures
+returns-then-not-marks-i c = mark_new c.args.marks.now _ _ _ (ap not c.if-not-marks-i.true) c.above.ensures
 
 pub returns-else-not-marks-i : goal.returns-else-not-marks-i
-returns-else-not-marks-i c = mark-kept _ _ _ (ap not c.if-not-marks-i.false)
+returns-else-not-marks-i c = mark_kept _ _ _ (ap not c.if-not-marks-i.false)
