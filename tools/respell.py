@@ -15,6 +15,7 @@ APART = {
     "nameLen": "name_length",
     "noRoom": "room_fails",
     "rangesIn": "range_count",
+    "getD": "get_or",
 }
 # The same in one crate alone.
 APART_IN = {"crates/model/": {"oneMore": "one_extent_more"}}

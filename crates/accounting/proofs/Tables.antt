@@ -30,12 +30,12 @@ accounts_valid t h o =
     }
 
 -- blank rows behind others are what is read there anyway
-get_d_blanks : (xs : List TagSpace) (b : TagSpace) (m i : ℕ) → get_or (xs ++ replicate m b) i b ≡ get_or xs i b
-get_d_blanks [] b zero i = refl
-get_d_blanks [] b (suc m) zero = refl
-get_d_blanks [] b (suc m) (suc i) = get_d_blanks [] b m i
-get_d_blanks (x ∷ xs) b m zero = refl
-get_d_blanks (x ∷ xs) b m (suc i) = get_d_blanks xs b m i
+get_or_blanks : (xs : List TagSpace) (b : TagSpace) (m i : ℕ) → get_or (xs ++ replicate m b) i b ≡ get_or xs i b
+get_or_blanks [] b zero i = refl
+get_or_blanks [] b (suc m) zero = refl
+get_or_blanks [] b (suc m) (suc i) = get_or_blanks [] b m i
+get_or_blanks (x ∷ xs) b m zero = refl
+get_or_blanks (x ∷ xs) b m (suc i) = get_or_blanks xs b m i
 
 pub tag_at : (a : Accounting) (i : ℕ) → get_or (tags_of a) i 0 ≡ (get_or a.rows i (blank 0)).tag
 unfolding tags_of
@@ -54,7 +54,7 @@ module _ (a : Accounting) (v : Valid a) where
   all_rows = ap (λ (q : Accounting). q.rows) v.record_of
 
   pub row_of_record : (i : ℕ) → get_or a.rows i (blank 0) ≡ get_or xs i (blank 0)
-  row_of_record i = ap (λ (l : List TagSpace). get_or l i (blank 0)) all_rows ∙ get_d_blanks xs (blank 0) (96 - length xs) i
+  row_of_record i = ap (λ (l : List TagSpace). get_or l i (blank 0)) all_rows ∙ get_or_blanks xs (blank 0) (96 - length xs) i
 
   pub row_behind_all : (i : ℕ) → 96 ≤ i → get_or xs i (blank 0) ≡ blank 0
   row_behind_all i h = get_or-eq_default xs (blank 0) (omega (arith, count_rows, v.few))

@@ -206,6 +206,7 @@ impl Accounting {
     }
 
     // The row at a place in tag order, a blank one behind the last.
+    #[tactic(auto, using(crate::proofs::Tables::row_of_record, crate::proofs::Tables::row_behind_all))]
     pub fn row_at(self, i: usize) -> TagSpace
         ensures { Valid self → result ≡ get_or (table_of self).rows i (blank 0) }
     {

@@ -5,9 +5,6 @@ use Rattle.plan_record.proofs.names.name_bytes.Goals as goal
 pub loop-k-init : goal.loop-k-init
 loop-k-init c = copied_begins _
 
-pub returns-then-k-ge24 : goal.returns-then-k-ge24
-returns-then-k-ge24 c = λ l. absurd (omega arith)
-
 pub loop-k-preserved : goal.loop-k-preserved
 loop-k-preserved c = copied_turns c.loop-k.invariant (omega arith) (omega arith)
 

@@ -1,5 +1,4 @@
 -- `sample::words::same` meets its contract: the first i numbers are the same.
-use native.Mathlib.Omega.{arith}
 use lib.ListN.{length}
 use Rattle.sample.proofs.Parts.{match_begins, match_on, match_ends, match_stops, not_same}
 use Rattle.sample.proofs.words.same.Goals as goal
@@ -10,26 +9,8 @@ returns-then-a-b c = not_same length c.args.a.now c.args.b.now c.if-a-b.true
 pub loop-i-init : goal.loop-i-init
 loop-i-init c = match_begins c.args.a.now c.args.b.now c.if-a-b.false
 
-pub offset_bounds-a-i : goal.offset_bounds-a-i
-offset_bounds-a-i c = omega (arith, c.loop-i.invariant.long, c.loop-i-test.true)
-
-pub bounds-a-i : goal.bounds-a-i
-bounds-a-i c = omega (arith, c.loop-i.invariant.long, c.loop-i-test.true)
-
-pub offset_bounds-b-i : goal.offset_bounds-b-i
-offset_bounds-b-i c = omega (arith, c.loop-i.invariant.long, c.loop-i-test.true)
-
-pub bounds-b-i : goal.bounds-b-i
-bounds-b-i c = omega (arith, c.loop-i.invariant.long, c.loop-i-test.true)
-
 pub returns-then-a-i : goal.returns-then-a-i
 returns-then-a-i c = match_stops c.loop-i.invariant c.if-a-i.true
-
-pub overflow_add-i : goal.overflow_add-i
-overflow_add-i c = omega (arith, c.loop-i.invariant.long, c.loop-i-test.true)
-
-pub loop-i-smaller : goal.loop-i-smaller
-loop-i-smaller c = omega (arith, c.loop-i.invariant.long, c.loop-i-test.true)
 
 pub loop-i-preserved : goal.loop-i-preserved
 loop-i-preserved c = match_on c.loop-i.invariant c.loop-i-test.true c.if-a-i.false
