@@ -1,8 +1,8 @@
 #!/usr/bin/env python3
 """Respells this repository's own names as today's Rattle does: words in snake case, with no capital and no dash in a word.
 
-Run once, at the top, after port.py; a second run changes nothing. It turns the names of definitions, laws and fields of .antt files
-wherever they stand: in proofs and definitions, in the contracts and comments of the code (.rt) and in must-fail edits. Types, modules
+Run once, at the top, after port.py; a second run changes nothing. It turns the names of definitions, laws and fields of .antt files, and
+those that a file gives to what it takes from others, wherever they stand: in proofs and definitions, in the contracts and comments of the code (.rt) and in must-fail edits. Types, modules
 and facts begin with a capital letter and stay; so do the functions of src/, strings, the names that the check makes, and the library's.
 """
 import collections
@@ -29,6 +29,8 @@ CAMEL = re.compile(r"(?<![A-Za-z0-9_'.\"])[a-z][A-Za-z0-9_']*[A-Z][A-Za-z0-9_']*
 NAME = re.compile(r"[^\s(){}.;,@\"«»\[\]`]+")
 DECLARED = re.compile(r"^ *(?:pub |abbrev |unfoldable |record |data )*([a-z]\S*-\S+)(?: \{[^{}\n]*\})* :(?= |$)(.*)", re.M)
 IMPORTED = re.compile(r"^use (\S+?)\.\{([^}]*)\}", re.M)
+# What a file calls a module or a name that it takes from elsewhere; that holds in this file alone.
+TAKEN_AS = re.compile(r"^use [^\n]*(?:\n[ \t}][^\n]*)*", re.M)
 STRING = re.compile(r'("(?:[^"\\\n]|\\.)*")')
 
 
@@ -83,6 +85,17 @@ def without_dashes(path, text, names):
     return NAME.sub(turn, text)
 
 
+def without_dashes_in_uses(text):
+    taken = {name for use in TAKEN_AS.findall(text) for name in re.findall(r"\sas\s+([a-z][^\s,{}]*-[^\s,{}]*)", use)}
+    words = set(NAME.findall(text))
+    free = {name for name in taken if name.replace("-", "_") not in words}
+
+    def turn(m):
+        return m[0].replace("-", "_") if m[0] in free and text[m.start() - 1 : m.start()] != "." else m[0]
+
+    return NAME.sub(turn, text)
+
+
 def main():
     changed = collections.Counter()
 
@@ -100,7 +113,8 @@ def main():
     names = dashed(proofs)
     for path in files(*sources, "crates/*/must-fail/*.edit"):
         old = read(path)
-        write(path, old, without_dashes(path, old, names))
+        new = without_dashes(path, old, names)
+        write(path, old, without_dashes_in_uses(new) if path.endswith(".antt") else new)
     print(f"respell: {len(names)} names with a dash, {len(changed)} files")
     return 0
 

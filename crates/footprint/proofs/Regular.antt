@@ -21,7 +21,7 @@ use Rattle.numbers.specs.Sums.{top}
 use Rattle.footprint.proofs.Answer.{accepted_passed, accepted_apart, none_failed}
 use Rattle.footprint.proofs.Overlap.{overlaps_false}
 use Rattle.footprint.proofs.Passed.{Lists, Logs, Block, Entries, Inside, kinds_tell}
-use Rattle.numbers.proofs.Cases.{cases, never, and-true, or-true as one-true}
+use Rattle.numbers.proofs.Cases.{cases, never, and-true, or-true as one_true}
 use Rattle.numbers.proofs.Disjoint.{at_disjoint}
 use Rattle.numbers.proofs.Lists.{all_imp, of_none}
 use Rattle.numbers.proofs.Ranges.{end_exact, meets_true}
@@ -86,7 +86,7 @@ module _ (id : ℕ) (e : Entry) (h : Header) where
             (λ t.
             let a = and-true (not (eqb (kind_code e.kind) 3)) (eqb h.extent_count (e.extent_count + 1)) t in
             inr (λ s. eqb-false (kind_code e.kind) 3 (not-true _ a.0) (slot_code e.kind s), eqb-true _ _ a.1))
-            (one-true _ _ (not-false _ (refuse_none 9 (count_fails e h) (omega arith) t9.0)));
+            (one_true _ _ (not-false _ (refuse_none 9 (count_fails e h) (omega arith) t9.0)));
         multiple = eqb-true _ _ (not-false _ (refuse_none 10 _ (omega arith) t10.0));
       }
 

@@ -21,8 +21,8 @@ use Rattle.numbers.specs.Range.{Range, Disjoint, Within}
 use Rattle.numbers.specs.Sums.{sum}
 use Rattle.settle.specs.Inner.{no_region}
 use Rattle.settle.specs.Settle.{overlapped, renamed, mark_of, marks_of}
-use Rattle.footprint.proofs.Passed.{Logs, Inside, logs_pass as own-logs-pass}
-use Rattle.footprint.proofs.Regular.{accepted_regular, logs_fine as own-logs-fine}
+use Rattle.footprint.proofs.Passed.{Logs, Inside, logs_pass as own_logs_pass}
+use Rattle.footprint.proofs.Regular.{accepted_regular, logs_fine as own_logs_fine}
 use Rattle.model.proofs.Rows.{with_order, with_own, with_others}
 use Rattle.model.proofs.Sound.{Regular, Sound}
 use Rattle.numbers.proofs.Cases.{or-false}
@@ -154,13 +154,13 @@ module _ (o : Opening) where
         low = ltb-false _ _ b.0;
         high = ltb-false _ _ b.1;
         own =
-            all_imp (λ (r : Record). log_fails r ≡ false) OwnLogs (λ r. own-logs-pass o.limits r.header) o.records
+            all_imp (λ (r : Record). log_fails r ≡ false) OwnLogs (λ r. own_logs_pass o.limits r.header) o.records
             (any_false log_fails o.records a.1);
       }
 
   pub own_logs : LogsIn o → All (λ (r : Record). log_fails r ≡ false) o.records
   own_logs l =
-      all_imp OwnLogs (λ (r : Record). log_fails r ≡ false) (λ r. own-logs-fine o.limits r.entry r.header []) o.records l.own
+      all_imp OwnLogs (λ (r : Record). log_fails r ≡ false) (λ r. own_logs_fine o.limits r.entry r.header []) o.records l.own
 
   pub logs_fine : LogsIn o → logs_fail_in o ≡ false
   unfolding logs_fail_in

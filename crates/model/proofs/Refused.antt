@@ -16,7 +16,7 @@ use Rattle.numbers.specs.Refusals.{first, refuse}
 use Rattle.numbers.specs.Sums.{sum}
 use Rattle.footprint.proofs.Accepted.{sixty_within}
 use Rattle.footprint.proofs.Answer.{refusal_most}
-use Rattle.footprint.proofs.Regular.{refused_later, lists_fine as own-lists-fine}
+use Rattle.footprint.proofs.Regular.{refused_later, lists_fine as own_lists_fine}
 use Rattle.model.proofs.Opening.{count_of, listed_by, each_both, ListsIn, lists_pass, logs_pass, log_fails, own_logs, checks}
 use Rattle.numbers.proofs.Cases.{cases, by_eq, never}
 use Rattle.numbers.proofs.Lists.{all_at, all_imp}
@@ -35,7 +35,7 @@ module _ (lim : Limits) where
   own_right r l e c h =
       let p = length_pairs l in
       let k = length-take-le (2 * listed_by r) l (omega arith) in
-      own-lists-fine lim r.entry r.header _ _
+      own_lists_fine lim r.entry r.header _ _
       (record {
         even = even_list (take (2 * listed_by r) l) (omega arith);
         listed = ap length (pairs_take (listed_by r) l) ∙ length-take-le (listed_by r) (pairs l) e;

@@ -14,7 +14,7 @@ use Rattle.model.specs.Region.{Region}
 use Rattle.model.specs.World.{tag_row, held, physical, logical}
 use Rattle.numbers.specs.Range.{range}
 use Rattle.numbers.specs.Refusals.{accepted, refused}
-use Rattle.tagspace.specs.declared.Cap.TheVariants as cap-is
+use Rattle.tagspace.specs.declared.Cap.TheVariants as cap_is
 
 -- ---- what an open is made of
 
@@ -81,7 +81,7 @@ pub record Accepting : Type 0 where
   -- "A region's published length is then its entry's data size"
   pub published : map (λ (r : Region). r.published) (opened two).regions ≡ 98304 ∷ 4608 ∷ []
   -- "in tag order"; "no tag has a cap"
-  pub rows : (opened two).rows ≡ tag_row 3 cap-is.Nothing ∷ tag_row 7 cap-is.Nothing ∷ []
+  pub rows : (opened two).rows ≡ tag_row 3 cap_is.Nothing ∷ tag_row 7 cap_is.Nothing ∷ []
   -- "physical totals count footprints, logical ones published lengths"
   pub totals : (physical (opened two) 7 ≡ 34 * 4096) × (logical (opened two) 7 ≡ 98304)
   -- Across the join of two extents: byte 16384 + 65535.

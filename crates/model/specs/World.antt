@@ -9,7 +9,7 @@ use Rattle.numbers.specs.Lists.{keep}
 use Rattle.numbers.specs.Range.{Range, total}
 use Rattle.numbers.specs.Sums.{sum}
 use Rattle.tagspace.specs.declared.Cap.{Cap}
-use Rattle.tagspace.specs.declared.Cap.TheVariants as cap-is
+use Rattle.tagspace.specs.declared.Cap.TheVariants as cap_is
 use Rattle.tagspace.specs.declared.TagSpace.{TagSpace}
 
 -- A tag's row, with its cap.
@@ -69,7 +69,7 @@ has_row w tag = has_key tag_of tag w.rows
 
 -- A tag's row, one without a cap where it has none.
 abbrev pub row_of : ℕ → List TagRow → TagRow
-row_of tag ts = keyed tag_of (tag_row tag cap-is.Nothing) tag ts
+row_of tag ts = keyed tag_of (tag_row tag cap_is.Nothing) tag ts
 
 -- The rows with one put in its place, "in tag order", over the row of the same tag where there is one.
 abbrev pub put_row : TagRow → List TagRow → List TagRow

@@ -31,8 +31,8 @@ use Rattle.numbers.proofs.Keyed.{map_put, map_keyed}
 use Rattle.numbers.proofs.Sums.{sum_append}
 use Rattle.accounting.specs.Table as accounting
 use Rattle.model.specs.Open as model
-use Rattle.model.specs.Region as model-region
-use Rattle.model.specs.World as model-world
+use Rattle.model.specs.Region as model_region
+use Rattle.model.specs.World as model_world
 
 -- ---- the record of the usages
 
@@ -92,9 +92,9 @@ rows_are lim (m ∷ ms) =
     let t : Table = add_all (map (usage_of lim) (reverse ms)) no_tags in
     let x : TagSpace = add_usage (size_of m) (len_of lim m) (accounting.row_of (tag_of m) t.rows) in
     ap (λ (q : Table). map cap_of q.rows) (add_first lim m ms)
-    ∙ map_put cap_of accounting.tag_of model-world.tag_of (λ r. refl) x t.rows
-    ∙ ap (λ (q : TagRow). put_keyed model-world.tag_of q (map cap_of t.rows)) (map_keyed cap_of accounting.tag_of model-world.tag_of (λ r. refl) (blank (tag_of m)) (tag_of m) t.rows)
-    ∙ ap (λ (l : List TagRow). model-world.with_tag (tag_of m) l) (rows_are lim ms)
+    ∙ map_put cap_of accounting.tag_of model_world.tag_of (λ r. refl) x t.rows
+    ∙ ap (λ (q : TagRow). put_keyed model_world.tag_of q (map cap_of t.rows)) (map_keyed cap_of accounting.tag_of model_world.tag_of (λ r. refl) (blank (tag_of m)) (tag_of m) t.rows)
+    ∙ ap (λ (l : List TagRow). model_world.with_tag (tag_of m) l) (rows_are lim ms)
 
 -- ---- totals
 
@@ -113,7 +113,7 @@ usage_sum f tag (u ∷ us) =
     let i = usage_sum f tag us in by_eq u.tag tag (λ e. simp (eq-eqb _ _ e) (omega arith)) (λ d. simp (ne_eqb _ _ d) (omega arith))
 
 -- the usage of a region
-abbrev of_region : Limits → model-region.Region → Usage
+abbrev of_region : Limits → model_region.Region → Usage
 of_region lim r = usage r.tag r.published (footprint_len lim r)
 
 -- an accepted record counts what its region holds
@@ -135,11 +135,11 @@ all_usages lim (m ∷ ms) l a h =
 
 module _ (lim : Limits) (ms : List model.Record) (l : List ℕ) (a : All (λ (n : ℕ). n ≡ 0) (model.each_record (model.record_refusal lim) ms l))
     (h : sum (map (footprint_len lim) (model.each_record model.region_from ms l)) ≤ top) (tag : ℕ) where
-  abbrev regions : List model-region.Region
+  abbrev regions : List model_region.Region
   regions = model.each_record model.region_from ms l
 
   -- a total over the usages is one over the regions
-  total_is : (f : Usage → ℕ) → sum (map f (of_tag tag (map (usage_of lim) (reverse ms)))) ≡ sum (map (λ (r : model-region.Region). f (of_region lim r)) (model-world.of_tag tag regions))
+  total_is : (f : Usage → ℕ) → sum (map f (of_tag tag (map (usage_of lim) (reverse ms)))) ≡ sum (map (λ (r : model_region.Region). f (of_region lim r)) (model_world.of_tag tag regions))
   total_is f =
       let g : Usage → ℕ = λ u. if_tag u.tag tag (f u) in
       usage_sum f tag (map (usage_of lim) (reverse ms))
@@ -148,21 +148,21 @@ module _ (lim : Limits) (ms : List model.Record) (l : List ℕ) (a : All (λ (n 
       ∙ ap sum (sym (map-map g (usage_of lim) ms))
       ∙ ap (λ (us : List Usage). sum (map g us)) (all_usages lim ms l a h)
       ∙ ap sum (map-map g (of_region lim) regions)
-      ∙ sym (sum_tag (λ (r : model-region.Region). f (of_region lim r)) tag regions)
+      ∙ sym (sum_tag (λ (r : model_region.Region). f (of_region lim r)) tag regions)
 
   -- a tag's row has its totals, where they do not stop
-  pub row_is : (logical physical : ℕ) → logical ≡ sum (map (λ (r : model-region.Region). r.published) (model-world.of_tag tag regions))
-      → physical ≡ sum (map (footprint_len lim) (model-world.of_tag tag regions)) → logical ≤ top → physical ≤ top
+  pub row_is : (logical physical : ℕ) → logical ≡ sum (map (λ (r : model_region.Region). r.published) (model_world.of_tag tag regions))
+      → physical ≡ sum (map (footprint_len lim) (model_world.of_tag tag regions)) → logical ≤ top → physical ≤ top
       → accounting.row_of tag (add_all (map (usage_of lim) (reverse ms)) no_tags).rows
-      ≡ record { tag = tag; logical = logical; physical = physical; reserved = 0; cap = (model-world.row_of tag (model.rows_for (map tag_of ms))).cap }
+      ≡ record { tag = tag; logical = logical; physical = physical; reserved = 0; cap = (model_world.row_of tag (model.rows_for (map tag_of ms))).cap }
   row_is logical physical p q u v =
       let us : List Usage = map (usage_of lim) (reverse ms) in
       let rows : List TagSpace = (add_all us no_tags).rows in
       let x = total_is (λ (w : Usage). w.logical) in
       let y = total_is (λ (w : Usage). w.physical) in
       let r = usage_row tag us in
-      let c : model-world.row_of tag (model.rows_for (map tag_of ms)) ≡ cap_of (accounting.row_of tag rows) =
-      ap (model-world.row_of tag) (sym (rows_are lim ms)) ∙ sym (map_keyed cap_of accounting.tag_of model-world.tag_of (λ t. refl) (blank tag) tag rows) in
+      let c : model_world.row_of tag (model.rows_for (map tag_of ms)) ≡ cap_of (accounting.row_of tag rows) =
+      ap (model_world.row_of tag) (sym (rows_are lim ms)) ∙ sym (map_keyed cap_of accounting.tag_of model_world.tag_of (λ t. refl) (blank tag) tag rows) in
       let a : stop (0 + sum (map (λ (w : Usage). w.logical) (of_tag tag us))) ≡ logical = omega arith in
       let b : stop (0 + sum (map (λ (w : Usage). w.physical) (of_tag tag us))) ≡ physical = omega arith in
       rw (c, r, a, b)

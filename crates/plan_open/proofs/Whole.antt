@@ -36,10 +36,10 @@ use Rattle.plan_checks.proofs.Reading.{records_length}
 use Rattle.plan_open.proofs.Usages.{rows_are, row_is}
 use Rattle.accounting.specs.Table as accounting
 use Rattle.model.specs.Open as model
-use Rattle.model.specs.Region as model-region
+use Rattle.model.specs.Region as model_region
 use Rattle.plan_checks.specs.Opening as checked
 use Rattle.regionmap.specs.Map as regionmap
-use Rattle.model.proofs.Sound as model-sound
+use Rattle.model.proofs.Sound as model_sound
 
 -- ---- an accepted record is fit
 
@@ -77,7 +77,7 @@ module _ {lim : Limits} {rs : List Record} {n : ℕ} {l xs₀ ss₀ fs₀ : List
   fine : Fine o
   fine = accepted_fine o a.none
 
-  sound : model-sound.Sound (model.opened o)
+  sound : model_sound.Sound (model.opened o)
   sound = opened_sound o a.none
 
   pub build_few : n ≤ 64
@@ -137,10 +137,10 @@ module _ {lim : Limits} {rs : List Record} {n : ℕ} {l xs₀ ss₀ fs₀ : List
         let d = each_length model.region_from ms l in
         let e = records_length rs n in
         let g = front in
-        ext_get_or model-region.no_region (map (region_of xs) (take n gs)) (model.each_record model.region_from ms l) (omega arith)
+        ext_get_or model_region.no_region (map (region_of xs) (take n gs)) (model.each_record model.region_from ms l) (omega arith)
         (λ i h.
-        mapped_at (region_of xs) (take n gs) i past_region model-region.no_region (omega arith) ∙ means i (omega arith)
-        ∙ sym (each_at model.region_from ms l i blank_record model-region.no_region (omega arith)))
+        mapped_at (region_of xs) (take n gs) i past_region model_region.no_region (omega arith) ∙ means i (omega arith)
+        ∙ sym (each_at model.region_from ms l i blank_record model_region.no_region (omega arith)))
 
     rows : map cap_of (rows_of plan) ≡ model.rows_for (map (λ (r : model.Record). r.tag) ms)
     rows = ap (λ (q : accounting.Table). map cap_of q.rows) c.table ∙ rows_are lim ms
@@ -184,7 +184,7 @@ module _ {lim : Limits} {rs : List Record} {n : ℕ} {l xs₀ ss₀ fs₀ : List
                 mapped = all_of (Mapped xs ss fs) (take n gs) past_region (λ i h. maps i (omega (arith, h, front)));
                 accounts = c.valid;
                 accounted = λ tag. accounted tag ∙ ap (λ (w : World). account_of w tag) (sym world);
-                sound = subst model-sound.Sound (sym world) sound;
+                sound = subst model_sound.Sound (sym world) sound;
               };
           world = λ scratch room. world;
           extents = f.extents;

@@ -11,7 +11,7 @@ use Rattle.regionmap.specs.Map.{Valid, placement_of, from_refusal, with_room, La
 use Rattle.regionmap.specs.declared.RegionMap.{RegionMap}
 use Rattle.model.proofs.Opening.{count_of}
 use Rattle.model.specs.Open as model
-use Rattle.model.specs.Region as model-region
+use Rattle.model.specs.Region as model_region
 
 -- A map whose runs stand in a row, with no more room than that.
 pub record Roomy (m : RegionMap) (ss fs : List ℕ) : Type 0 where
@@ -49,7 +49,7 @@ pub record Fit (r : model.Record) (xs : List ℕ) : Type 0 where
   pub size : r.entry.data_size ≤ total (committed r.entry xs)
 
 -- A region of the plan with the first of these extents.
-abbrev pub region_with : List Range → Region → model-region.Region
+abbrev pub region_with : List Range → Region → model_region.Region
 region_with xs g =
     record {
       number = g.number;

@@ -27,7 +27,7 @@ use Rattle.numbers.proofs.Cases.{cases, by_eq, clash, and-true}
 use Rattle.numbers.proofs.Keyed.{map_keyed, map_put, map_has, key_true, true_key, put_same, keyed_any_key}
 use Rattle.accounting.specs.Table as accounting
 use Rattle.model.specs.World as model
-use Rattle.tagspace.specs.declared.Cap.TheVariants as cap-is
+use Rattle.tagspace.specs.declared.Cap.TheVariants as cap_is
 
 -- ---- a plan's rows in its world
 
@@ -151,7 +151,7 @@ with-tag tag rule t k =
 
 -- where it has a row, they stay
 pub tag_there : (p : Plan) (xs ss fs : List ℕ) → Valid p xs ss fs → (tag : ℕ) → HasKey model.tag_of tag (world_of p xs).rows → model.with_tag tag (world_of p xs).rows ≡ (world_of p xs).rows
-tag_there p xs ss fs v tag h = put_same model.tag_of (model.tag_row tag cap-is.Nothing) tag (world_of p xs).rows v.sound.order h
+tag_there p xs ss fs v tag h = put_same model.tag_of (model.tag_row tag cap_is.Nothing) tag (world_of p xs).rows v.sound.order h
 
 -- a posting to a tag that has a row, by a rule that leaves the cap, leaves the world's rows
 pub rows_stay : (p : Plan) (xs ss fs : List ℕ) → Valid p xs ss fs → (tag : ℕ) (rule : TagSpace → TagSpace) → ((r : TagSpace) → cap_of (rule r) ≡ cap_of r)

@@ -6,7 +6,7 @@ use Rattle.accounting.specs.Table as accounting
 use Rattle.footprint.specs.declared.RegionKind.TheVariants.{Append}
 use Rattle.model.specs.Region as model
 use Rattle.model.specs.World.{World, TagRow, tag_row, account_of}
-use Rattle.model.proofs.Sound as model-sound
+use Rattle.model.proofs.Sound as model_sound
 use Rattle.numbers.specs.Lists.{All, Distinct}
 use Rattle.numbers.specs.Pairs.{pairs}
 use Rattle.numbers.specs.Refusals.{Answer, accepted, refused}
@@ -101,7 +101,7 @@ pub record Valid (p : Plan) (xs ss fs : List ℕ) : Type 0 where
   pub accounts : accounting.Valid p.accounts
   -- each tag's row has its totals; a tag without a row has none
   pub accounted : (tag : ℕ) → accounting.row_of tag (rows_of p) ≡ account_of (world_of p xs) tag
-  pub sound : model-sound.Sound (world_of p xs)
+  pub sound : model_sound.Sound (world_of p xs)
 
 -- ---- the place of a region
 

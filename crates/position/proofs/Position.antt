@@ -21,17 +21,17 @@ use Rattle.model.proofs.Steps.{next_sound, after_sound}
 use Rattle.numbers.proofs.Answers.{same_value, answer_value, accepted_is}
 use Rattle.position.proofs.Running.{world_in, Ran, ran}
 use Rattle.model.specs.Demand as model
-use Rattle.plan.proofs.cap.Met as cap-met
-use Rattle.plan.proofs.create.Met as create-met
-use Rattle.plan.proofs.drop.Met as drop-met
-use Rattle.plan.proofs.grow.Met as grow-met
-use Rattle.plan.proofs.locate.Met as locate-met
-use Rattle.plan.proofs.publish.Met as publish-met
-use Rattle.plan_open.proofs.open.Met as open-met
-use Rattle.plan_record.proofs.Plan.free.Met as free-met
-use Rattle.plan_record.proofs.Plan.held.Met as held-met
-use Rattle.plan_record.proofs.Plan.logical.Met as logical-met
-use Rattle.plan_record.proofs.Plan.physical.Met as physical-met
+use Rattle.plan.proofs.cap.Met as cap_met
+use Rattle.plan.proofs.create.Met as create_met
+use Rattle.plan.proofs.drop.Met as drop_met
+use Rattle.plan.proofs.grow.Met as grow_met
+use Rattle.plan.proofs.locate.Met as locate_met
+use Rattle.plan.proofs.publish.Met as publish_met
+use Rattle.plan_open.proofs.open.Met as open_met
+use Rattle.plan_record.proofs.Plan.free.Met as free_met
+use Rattle.plan_record.proofs.Plan.held.Met as held_met
+use Rattle.plan_record.proofs.Plan.logical.Met as logical_met
+use Rattle.plan_record.proofs.Plan.physical.Met as physical_met
 
 -- ---- room
 
@@ -125,17 +125,17 @@ module _ (l : Loans) (a b : Loan) (o : Arguments) (s t : List ℕ) (h k : Whole)
 pub position : Position
 position =
     record {
-      opens = open-met.met;
-      creates = create-met.met;
-      grows = grow-met.met;
-      publishes = publish-met.met;
-      drops = drop-met.met;
-      caps = cap-met.met;
-      locates = locate-met.met;
-      tells_held = held-met.met;
-      tells_free = free-met.met;
-      tells_physical = physical-met.met;
-      tells_logical = logical-met.met;
+      opens = open_met.met;
+      creates = create_met.met;
+      grows = grow_met.met;
+      publishes = publish_met.met;
+      drops = drop_met.met;
+      caps = cap_met.met;
+      locates = locate_met.met;
+      tells_held = held_met.met;
+      tells_free = free_met.met;
+      tells_physical = physical_met.met;
+      tells_logical = logical_met.met;
       accepts = done;
       only_then = only;
       claim = claims;

@@ -12,17 +12,17 @@ use Rattle.model.specs.Open.{open_refusal, opened}
 use Rattle.model.specs.Span.{FreeSpan, LeastFree}
 use Rattle.model.specs.World.{World, held, free, physical, logical}
 use Rattle.numbers.specs.Refusals.{Answer, accepted, refused, first}
-use Rattle.plan.proofs.cap.Statement as cap-code
-use Rattle.plan.proofs.create.Statement as create-code
+use Rattle.plan.proofs.cap.Statement as cap_code
+use Rattle.plan.proofs.create.Statement as create_code
 use Rattle.plan.proofs.drop.Statement as drop_code
-use Rattle.plan.proofs.grow.Statement as grow-code
-use Rattle.plan.proofs.locate.Statement as locate-code
-use Rattle.plan.proofs.publish.Statement as publish-code
+use Rattle.plan.proofs.grow.Statement as grow_code
+use Rattle.plan.proofs.locate.Statement as locate_code
+use Rattle.plan.proofs.publish.Statement as publish_code
 use Rattle.plan_open.proofs.open.Statement as open_code
-use Rattle.plan_record.proofs.Plan.free.Statement as free-code
-use Rattle.plan_record.proofs.Plan.held.Statement as held-code
-use Rattle.plan_record.proofs.Plan.logical.Statement as logical-code
-use Rattle.plan_record.proofs.Plan.physical.Statement as physical-code
+use Rattle.plan_record.proofs.Plan.free.Statement as free_code
+use Rattle.plan_record.proofs.Plan.held.Statement as held_code
+use Rattle.plan_record.proofs.Plan.logical.Statement as logical_code
+use Rattle.plan_record.proofs.Plan.physical.Statement as physical_code
 use Rattle.plan_record.specs.Plan.{reply_of}
 use Rattle.plan_record.specs.declared.Outcome.{Outcome}
 use Rattle.plan_record.specs.declared.Reply.{Reply}
@@ -87,16 +87,16 @@ pub record After (w₀ : World) (cs : List Call) (ns : List (Answer (Option ℕ)
 pub record Position : Type 2 where
   -- the code meets the contracts that the calls are told by
   pub opens : {M : Type 1} → open_code.statement M
-  pub creates : {M : Type 1} → create-code.statement M
-  pub grows : {M : Type 1} → grow-code.statement M
-  pub publishes : {M : Type 1} → publish-code.statement M
+  pub creates : {M : Type 1} → create_code.statement M
+  pub grows : {M : Type 1} → grow_code.statement M
+  pub publishes : {M : Type 1} → publish_code.statement M
   pub drops : {M : Type 1} → drop_code.statement M
-  pub caps : {M : Type 1} → cap-code.statement M
-  pub locates : {M : Type 1} → locate-code.statement M
-  pub tells_held : {M : Type 1} → held-code.statement M
-  pub tells_free : {M : Type 1} → free-code.statement M
-  pub tells_physical : {M : Type 1} → physical-code.statement M
-  pub tells_logical : {M : Type 1} → logical-code.statement M
+  pub caps : {M : Type 1} → cap_code.statement M
+  pub locates : {M : Type 1} → locate_code.statement M
+  pub tells_held : {M : Type 1} → held_code.statement M
+  pub tells_free : {M : Type 1} → free_code.statement M
+  pub tells_physical : {M : Type 1} → physical_code.statement M
+  pub tells_logical : {M : Type 1} → logical_code.statement M
   -- open accepts where the model accepts its arguments, and only there
   pub accepts : (l : Loans) (a b : Loan) (o : Arguments) (s t : List ℕ) (h k : Whole) (r : Outcome) → OpensWith l a b o s h r t k
       → open_refusal (opening_with o s h) ≡ 0 → r.reply ≡ Done

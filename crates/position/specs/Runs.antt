@@ -7,18 +7,18 @@ use Rattle.model.specs.Calls.{Call, create, grow, publish, drop, cap, locate}
 use Rattle.footprint.specs.declared.Limits.{Limits}
 use Rattle.model.specs.Open.{Opening}
 use Rattle.numbers.specs.Refusals.{Answer}
-use Rattle.plan.proofs.cap.Reads as cap-reads
-use Rattle.plan.proofs.create.Reads as create-reads
-use Rattle.plan.proofs.drop.Reads as drop-reads
-use Rattle.plan.proofs.grow.Reads as grow-reads
-use Rattle.plan.proofs.locate.Reads as locate-reads
-use Rattle.plan.proofs.publish.Reads as publish-reads
-use Rattle.plan_open.proofs.open.Reads as open-reads
+use Rattle.plan.proofs.cap.Reads as cap_reads
+use Rattle.plan.proofs.create.Reads as create_reads
+use Rattle.plan.proofs.drop.Reads as drop_reads
+use Rattle.plan.proofs.grow.Reads as grow_reads
+use Rattle.plan.proofs.locate.Reads as locate_reads
+use Rattle.plan.proofs.publish.Reads as publish_reads
+use Rattle.plan_open.proofs.open.Reads as open_reads
 use Rattle.plan_open.specs.Open.{opening_of}
-use Rattle.plan_record.proofs.Plan.free.Reads as free-reads
+use Rattle.plan_record.proofs.Plan.free.Reads as free_reads
 use Rattle.plan_record.proofs.Plan.held.Reads as held_reads
-use Rattle.plan_record.proofs.Plan.logical.Reads as logical-reads
-use Rattle.plan_record.proofs.Plan.physical.Reads as physical-reads
+use Rattle.plan_record.proofs.Plan.logical.Reads as logical_reads
+use Rattle.plan_record.proofs.Plan.physical.Reads as physical_reads
 use Rattle.plan_record.specs.Plan.{reply_of}
 use Rattle.plan_record.specs.declared.Outcome.{Outcome}
 use Rattle.plan_record.specs.declared.Plan.{Plan}
@@ -70,7 +70,7 @@ pub record Arguments : Type 0 where
 -- r, and left scratch and the lists as they are in t and k.
 abbrev pub OpensWith : Loans → (listed scratch : Loan) → Arguments → (s : List ℕ) → Whole → Outcome → (t : List ℕ) → Whole → Type 0
 OpensWith l a b o s h r t k =
-    open-reads.Learnt (a.lifetime, (b.lifetime, (l.extents.lifetime, (l.starts.lifetime, (l.files.lifetime, tt))))) (
+    open_reads.Learnt (a.lifetime, (b.lifetime, (l.extents.lifetime, (l.starts.lifetime, (l.files.lifetime, tt))))) (
       o.limits,
       (o.records, (o.count, (show a o.listed, (lend b s, (lend l.extents h.extents, (lend l.starts h.starts, (lend l.files h.files, tt))))))),
     )
@@ -86,7 +86,7 @@ opening_with o s h = opening_of o.limits o.records o.count o.listed s h.extents 
 -- `plan::create(plan, extents, starts, files, id, tag, name)` was called with h and answered r, and left the lists as they are in k.
 abbrev pub Creates : Loans → Whole → (id tag : ℕ) → List ℕ → Outcome → Whole → Type 0
 Creates l h id tag name r k =
-    create-reads.Learnt (l.extents.lifetime, (l.starts.lifetime, (l.files.lifetime, (l.name.lifetime, tt))))
+    create_reads.Learnt (l.extents.lifetime, (l.starts.lifetime, (l.files.lifetime, (l.name.lifetime, tt))))
     (h.plan, (lend l.extents h.extents, (lend l.starts h.starts, (lend l.files h.files, (id, (tag, (show l.name name, tt)))))))
     r
     (h.plan, (lend l.extents k.extents, (lend l.starts k.starts, (lend l.files k.files, (id, (tag, (show l.name name, tt)))))))
@@ -94,7 +94,7 @@ Creates l h id tag name r k =
 -- `plan::grow(plan, extents, starts, files, id)`
 abbrev pub Grows : Loans → Whole → ℕ → Outcome → Whole → Type 0
 Grows l h id r k =
-    grow-reads.Learnt (l.extents.lifetime, (l.starts.lifetime, (l.files.lifetime, tt)))
+    grow_reads.Learnt (l.extents.lifetime, (l.starts.lifetime, (l.files.lifetime, tt)))
     (h.plan, (lend l.extents h.extents, (lend l.starts h.starts, (lend l.files h.files, (id, tt)))))
     r
     (h.plan, (lend l.extents k.extents, (lend l.starts k.starts, (lend l.files k.files, (id, tt)))))
@@ -102,22 +102,22 @@ Grows l h id r k =
 -- `plan::drop(plan, extents, starts, files, id)`
 abbrev pub Drops : Loans → Whole → ℕ → Outcome → Whole → Type 0
 Drops l h id r k =
-    drop-reads.Learnt (l.extents.lifetime, (l.starts.lifetime, (l.files.lifetime, tt)))
+    drop_reads.Learnt (l.extents.lifetime, (l.starts.lifetime, (l.files.lifetime, tt)))
     (h.plan, (lend l.extents h.extents, (lend l.starts h.starts, (lend l.files h.files, (id, tt)))))
     r
     (h.plan, (lend l.extents k.extents, (lend l.starts k.starts, (lend l.files k.files, (id, tt)))))
 
 -- `plan::publish(plan, id, len)` and `plan::cap(plan, tag, limit)` take no lists.
 abbrev pub Publishes : Whole → (id len : ℕ) → Outcome → Type 0
-Publishes h id len r = publish-reads.Learnt tt (h.plan, (id, (len, tt))) r (h.plan, (id, (len, tt)))
+Publishes h id len r = publish_reads.Learnt tt (h.plan, (id, (len, tt))) r (h.plan, (id, (len, tt)))
 
 abbrev pub Caps : Whole → ℕ → Cap → Outcome → Type 0
-Caps h tag limit r = cap-reads.Learnt tt (h.plan, (tag, (limit, tt))) r (h.plan, (tag, (limit, tt)))
+Caps h tag limit r = cap_reads.Learnt tt (h.plan, (tag, (limit, tt))) r (h.plan, (tag, (limit, tt)))
 
 -- `plan::locate(plan, starts, files, id, pos, n)`
 abbrev pub Locates : Loans → Whole → (id pos n : ℕ) → Reply → Type 0
 Locates l h id pos n r =
-    locate-reads.Learnt (l.starts.lifetime, (l.files.lifetime, tt))
+    locate_reads.Learnt (l.starts.lifetime, (l.files.lifetime, tt))
     (h.plan, (show l.starts h.starts, (show l.files h.files, (id, (pos, (n, tt))))))
     r
     (h.plan, (show l.starts h.starts, (show l.files h.files, (id, (pos, (n, tt))))))
@@ -127,13 +127,13 @@ abbrev pub HeldTold : Whole → ℕ → Type 0
 HeldTold h r = held_reads.Learnt tt (h.plan, tt) r (h.plan, tt)
 
 abbrev pub FreeTold : Whole → ℕ → Type 0
-FreeTold h r = free-reads.Learnt tt (h.plan, tt) r (h.plan, tt)
+FreeTold h r = free_reads.Learnt tt (h.plan, tt) r (h.plan, tt)
 
 abbrev pub PhysicalTold : Whole → (tag r : ℕ) → Type 0
-PhysicalTold h tag r = physical-reads.Learnt tt (h.plan, (tag, tt)) r (h.plan, (tag, tt))
+PhysicalTold h tag r = physical_reads.Learnt tt (h.plan, (tag, tt)) r (h.plan, (tag, tt))
 
 abbrev pub LogicalTold : Whole → (tag r : ℕ) → Type 0
-LogicalTold h tag r = logical-reads.Learnt tt (h.plan, (tag, tt)) r (h.plan, (tag, tt))
+LogicalTold h tag r = logical_reads.Learnt tt (h.plan, (tag, tt)) r (h.plan, (tag, tt))
 
 -- ---- lists of calls
 

@@ -1,6 +1,6 @@
 -- `renamed` of specs/Settle: another record of the same name has no lower number; what `outdone` tests by index.
 use Prim.Native.Nat.{ℕ, zero, suc, ◌+◌, ◌-◌, ◌≤◌, ◌<◌, max}
-use mathlib.Core.Bool.{Bool, true, false, ◌&&◌, ◌||◌, and-true, and-false, or-false as or-none, or_assoc}
+use mathlib.Core.Bool.{Bool, true, false, ◌&&◌, ◌||◌, and-true, and-false, or-false as or_none, or_assoc}
 use mathlib.Core.List.{List, [], ◌∷◌, ◌++◌, append_assoc}
 use mathlib.Core.Logic.{◌⊎◌, ⊎_elim}
 use mathlib.Core.Path.{◌≡◌, refl, ap, sym, ◌∙◌}
@@ -113,7 +113,7 @@ module _ (us un : List Region) (i : ℕ) (h : i < length us) where
 
 below_split : (f : ℕ → Bool) (n m : ℕ) → any_below f (n + m) ≡ (any_below f n || any_below (λ (j : ℕ). f (n + j)) m)
 unfolding any_below
-below_split f n zero = let e : n + 0 ≡ n = omega arith in rw e (sym (or-none (any_below f n)))
+below_split f n zero = let e : n + 0 ≡ n = omega arith in rw e (sym (or_none (any_below f n)))
 below_split f n (suc m) =
     let e : n + suc m ≡ suc (n + m) = omega arith in
     rw e (ap (λ (b : Bool). b || f (n + m)) (below_split f n m) ∙ or_assoc (any_below f n) (any_below (λ (j : ℕ). f (n + j)) m) (f (n + m)))
@@ -137,7 +137,7 @@ module _ {A : Type 0} (g : A → Bool) (d : A) where
       by_index (λ (j : ℕ). f (suc i + j)) (drop (suc i) l) (n - suc i) (length-drop (suc i) l ∙ omega arith)
       (λ j k. e (suc i + j) (omega arith) (λ q. omega arith) ∙ ap g (sym (get_or-drop (suc i) l j d))) in
       let m : n ≡ suc i + (n - suc i) = omega arith in
-      ap (any_below f) m ∙ below_split f (suc i) (n - suc i) ∙ simp (none, or-none, front, back)
+      ap (any_below f) m ∙ below_split f (suc i) (n - suc i) ∙ simp (none, or_none, front, back)
 
 -- ---- a record by the lists and as a region
 

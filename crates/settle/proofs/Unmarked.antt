@@ -1,6 +1,6 @@
 -- What it means that no region is marked: no two ranges of the usable regions meet, and no two have one name.
 use Prim.Native.Nat.{ℕ, suc, ◌<◌}
-use mathlib.Core.Bool.{Bool, false, not, ◌&&◌, ◌||◌, or_assoc, or-false as or-none}
+use mathlib.Core.Bool.{Bool, false, not, ◌&&◌, ◌||◌, or_assoc, or-false as or_none}
 use mathlib.Core.List.{List, [], ◌∷◌, ◌++◌, map, map-append, append_assoc}
 use mathlib.Core.Path.{◌≡◌, refl, ap, sym, ◌∙◌}
 use native.Mathlib.Nat.{not-suc-le-zero}
@@ -122,7 +122,7 @@ module _ (us : List Region) where
         → renamed us [] (get_or us i no_region) ≡ false
     unfolding any
     lower_unmarked f =
-        renamed_at us [] i h ∙ or-none _
+        renamed_at us [] i h ∙ or_none _
         ∙ never _
         (λ e.
         let b = below_true (rival us [] i h) (length us) e in

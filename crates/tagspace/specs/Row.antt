@@ -2,13 +2,13 @@
 -- of whole numbers stops at 0 by itself.
 use Rattle.std.specs.Prelude.{ℕ, ◌+◌, ◌-◌, Bool, true, leb}
 use Rattle.tagspace.specs.declared.Cap.{Cap}
-use Rattle.tagspace.specs.declared.Cap.TheVariants as cap-is
+use Rattle.tagspace.specs.declared.Cap.TheVariants as cap_is
 use Rattle.tagspace.specs.declared.TagSpace.{TagSpace}
 use Rattle.numbers.specs.Sums.{stop}
 
 -- The row of a tag that nothing was posted to.
 abbrev pub blank : ℕ → TagSpace
-blank tag = record { tag = tag; logical = 0; physical = 0; reserved = 0; cap = cap-is.Nothing }
+blank tag = record { tag = tag; logical = 0; physical = 0; reserved = 0; cap = cap_is.Nothing }
 
 abbrev with_usage : ℕ → ℕ → TagSpace → TagSpace
 with_usage logical physical r = record { tag = r.tag; logical = logical; physical = physical; reserved = r.reserved; cap = r.cap }
@@ -33,8 +33,8 @@ abbrev pub set_cap : Cap → TagSpace → TagSpace
 set_cap cap r = record { tag = r.tag; logical = r.logical; physical = r.physical; reserved = r.reserved; cap = cap }
 
 unfoldable pub allows : Cap → ℕ → Bool
-allows cap-is.Nothing n = true
-allows (cap-is.Limit limit) n = leb n limit
+allows cap_is.Nothing n = true
+allows (cap_is.Limit limit) n = leb n limit
 
 -- "`fits`: no cap, or physical + reserved + extra in whole numbers is at most the cap"
 unfoldable pub fits : ℕ → TagSpace → Bool
