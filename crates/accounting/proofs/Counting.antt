@@ -1,23 +1,26 @@
 -- Usages counted one after another.
+use Rattle.std.proofs.Common.{◌-◌}
+use Rattle.numbers.proofs.Answers.{no_error}
+use Rattle.numbers.specs.declared.refusal.Refusal.TheVariants.{Lists, Full}
+use Rattle.numbers.specs.declared.refusal.Refusal.{Refusal}
+use Rattle.std.specs.Prelude.{Result, Ok, Err, Option, Some, None, zero, suc, cond, eqb}
 use Prim.Native.Nat.{ℕ, ◌+◌, ◌≤◌, ◌<◌}
 use mathlib.Core.Bool.{Bool, true, false, or-true}
 use mathlib.Core.List.{List, [], ◌∷◌}
 use mathlib.Core.Path.{◌≡◌, refl, ap, sym, subst, ◌∙◌}
 use native.Mathlib.Omega.{arith}
-use lib.ListN.{length, get_or, set, drop, drop_of_length-le}
+use lib.ListN.{length, get_or, drop, drop_of_length-le}
 use lib.Seq.{drop-drop}
 use borrow.Author.Tests.{eq-eqb, ne_eqb}
 use Rattle.accounting.specs.Entries.{Usage, Counts, usage, usages, ready_usages, added_len, add_all, no_tags, differ}
-use Rattle.accounting.specs.Inner.{Sought, inserted}
+use Rattle.accounting.specs.Inner.{gathered}
 use Rattle.accounting.specs.Table.{Table, Valid, Posts, accounts_of, table_of, tag_of, on_row}
 use Rattle.accounting.specs.declared.Accounting.{Accounting}
 use Rattle.accounting.specs.declared.Posted.{Posted}
-use Rattle.accounting.specs.declared.table.Spot.{Spot}
-use Rattle.tagspace.specs.Row.{blank, add_usage}
-use Rattle.tagspace.specs.declared.TagSpace.{TagSpace}
-use Rattle.accounting.proofs.Handing.{handed_fit, handed_full, posts_known, posts_unknown}
+use Rattle.tagspace.specs.Row.{add_usage}
+use Rattle.accounting.proofs.Handing.{handed_fit, handed_full}
 use Rattle.accounting.proofs.Tables.{table_accounts, accounts_valid, count_rows}
-use Rattle.numbers.proofs.Cases.{by_lt}
+use Rattle.numbers.proofs.Cases.{by_lt, by_eq}
 use Rattle.numbers.proofs.Keyed.{put_more}
 use Rattle.numbers.proofs.Lists.{from_here, at_front}
 
@@ -54,11 +57,11 @@ module _ {all rest : List Usage} {a : Accounting} (g : Counting all rest a) wher
     unfolding add_all
     now_rest = g.now ∙ ap (λ (l : List Usage). add_all l (table_of a)) r
 
-    counts_on : p.refusal ≡ 0 → Counting all us p.accounts
+    pub counts_on : p.answer ≡ Ok tt → Counting all us p.accounts
     counts_on z =
         let e = q.answer g.valid in
         by_lt 96 (length next.rows)
-        (λ l. let w : ◌≡◌ {A = ℕ} 0 19 = sym z ∙ ap (λ (b : Posted). b.refusal) (e ∙ handed_full (table_of a) next l) in absurd (omega (arith, w)))
+        (λ l. absurd (no_error _ _ (sym z ∙ ap (λ (b : Posted). b.answer) (e ∙ handed_full (table_of a) next l))))
         (λ l.
         let s : p.accounts ≡ accounts_of next = ap (λ (b : Posted). b.accounts) (e ∙ handed_fit (table_of a) next l) in
         record {
@@ -66,42 +69,28 @@ module _ {all rest : List Usage} {a : Accounting} (g : Counting all rest a) wher
           now = now_rest ∙ ap (add_all us) (sym (ap table_of s ∙ table_accounts next));
         })
 
-    counts_refused : (p.refusal ≡ 0 → ⊥) → Counts false all (record { refusal = p.refusal; accounts = accounts_of no_tags })
-    counts_refused n =
+    pub counts_refused : (n : Refusal) → p.answer ≡ Err n
+        → Counts false all (record { answer = Err n; accounts = accounts_of no_tags })
+    counts_refused n y =
         let e = q.answer g.valid in
         by_lt 96 (length next.rows)
         (λ l.
         let m : length next.rows ≤ length (add_all us next).rows = add_more us next in
         let k : 96 < length (add_all all no_tags).rows = subst (λ (t : Table). 96 < length t.rows) (sym now_rest) (omega (arith, m, l)) in
-        let z : p.refusal ≡ 19 = ap (λ (b : Posted). b.refusal) (e ∙ handed_full (table_of a) next l) in
+        let z : p.answer ≡ Err Full = ap (λ (b : Posted). b.answer) (e ∙ handed_full (table_of a) next l) in
         record {
-          answer = ap (λ (i : ℕ). record { refusal = i; accounts = accounts_of no_tags }) z ∙ sym (handed_full no_tags (add_all all no_tags) k);
+          answer = ap (λ (i : Result (Unit {0}) Refusal). record { answer = i; accounts = accounts_of no_tags }) (sym y ∙ z) ∙ sym (handed_full no_tags (add_all all no_tags) k);
           valid = accounts_valid no_tags (omega arith) tt;
         })
-        (λ l. absurd (n (ap (λ (b : Posted). b.refusal) (e ∙ handed_fit (table_of a) next l))))
+        (λ l. absurd (no_error _ _ (sym (ap (λ (b : Posted). b.answer) (e ∙ handed_fit (table_of a) next l)) ∙ y)))
 
-  -- one more, by what the search found
-  module _ (u : Usage) (us : List Usage) (r : rest ≡ u ∷ us) (s : Spot) (f : Sought a u.tag s) (x : TagSpace) where
-    abbrev rule : TagSpace → TagSpace
-    rule = add_usage u.logical u.physical
-
-    pub counts_known : s.known ≡ true → x ≡ rule (get_or a.rows s.at (blank 0)) → Counting all us (record { rows = set a.rows s.at x; count = a.count; reserved = a.reserved })
-    counts_known z q = counts_on u us r _ (posts_known a u.tag s f rule (λ y. refl) x z q) refl
-
-    module _ (z : s.known ≡ false) (q : x ≡ rule (blank u.tag)) (p : Posted) (e : p ≡ inserted s.at x a) where
-      pub counts_new : p.refusal ≡ 0 → Counting all us p.accounts
-      counts_new = counts_on u us r p (posts_unknown a u.tag s f rule (λ y. refl) x z q p e)
-
-      pub counts_full : (p.refusal ≡ 0 → ⊥) → Counts false all (record { refusal = p.refusal; accounts = accounts_of no_tags })
-      counts_full = counts_refused u us r p (posts_unknown a u.tag s f rule (λ y. refl) x z q p e)
-
-  pub counts_end : rest ≡ [] → Counts false all (record { refusal = 0; accounts = a })
+  pub counts_end : rest ≡ [] → Counts false all (record { answer = Ok tt; accounts = a })
   unfolding add_all
   counts_end r =
       let e : add_all all no_tags ≡ table_of a = g.now ∙ ap (λ (l : List Usage). add_all l (table_of a)) r in
       let k : length (add_all all no_tags).rows ≤ 96 = subst (λ (t : Table). length t.rows ≤ 96) (sym e) (let c = count_rows a g.valid in omega (arith, c, g.valid.few)) in
       record {
-        answer = ap (λ (b : Accounting). record { refusal = 0; accounts = b }) (g.valid.record_of ∙ ap accounts_of (sym e)) ∙ sym (handed_fit no_tags (add_all all no_tags) k);
+        answer = ap (λ (b : Accounting). record { answer = Ok tt; accounts = b }) (g.valid.record_of ∙ ap accounts_of (sym e)) ∙ sym (handed_fit no_tags (add_all all no_tags) k);
         valid = g.valid;
       }
 
@@ -129,6 +118,47 @@ module _ (block : ℕ) (ss ts ns : List ℕ) (i : ℕ) where
   unfolding ready_usages
   ready_end h = rw (drop_of_length-le ts h)
 
+-- ---- places that may have a usage
+
+module _ (us : ℕ → Option Usage) (i n : ℕ) (h : i < n) where
+  after : n - i ≡ suc (n - (i + 1))
+  after = omega arith
+
+  pub gathered_some : (u : Usage) → us i ≡ Some u → gathered us i (n - i) ≡ u ∷ gathered us (i + 1) (n - (i + 1))
+  gathered_some u e = rw (after, e)
+
+  pub gathered_none : us i ≡ None → gathered us i (n - i) ≡ gathered us (i + 1) (n - (i + 1))
+  gathered_none e = rw (after, e)
+
+pub gathered_end : (us : ℕ → Option Usage) (i n : ℕ) → n ≤ i → gathered us i (n - i) ≡ []
+gathered_end us i n h = let e : n - i ≡ 0 = omega arith in rw e
+
+module _ (ts ls ps : List ℕ) where
+  abbrev pub usage_at : ℕ → Option Usage
+  usage_at i = Some (usage (get_or ts i 0) (get_or ls i 0) (get_or ps i 0))
+
+  gather_from : (i n : ℕ) → i + n ≡ length ts → gathered usage_at i n ≡ usages (drop i ts) (drop i ls) (drop i ps)
+  gather_from i zero e = sym (usages_end ts ls ps i (omega arith))
+  gather_from i (suc n) e =
+      ap (λ (us : List Usage). usage (get_or ts i 0) (get_or ls i 0) (get_or ps i 0) ∷ us) (gather_from (i + 1) n (omega arith)) ∙ sym (usages_next ts ls ps i (omega arith))
+
+  pub gather_usages : gathered usage_at 0 (length ts) ≡ usages ts ls ps
+  gather_usages = gather_from 0 (length ts) (omega arith)
+
+module _ (block : ℕ) (ss ts ns : List ℕ) where
+  abbrev pub ready_at : ℕ → Option Usage
+  ready_at i = cond (eqb (get_or ss i 0) 1) (Some (usage (get_or ts i 0) (get_or ns i 0) (added_len (get_or ns i 0) block))) None
+
+  gather_ready_from : (i n : ℕ) → i + n ≡ length ts → gathered ready_at i n ≡ ready_usages block (drop i ss) (drop i ts) (drop i ns)
+  gather_ready_from i zero e = sym (ready_end block ss ts ns i (omega arith))
+  gather_ready_from i (suc n) e =
+      by_eq (get_or ss i 0) 1
+      (λ z. simp (eq-eqb _ _ z) (ap (λ (us : List Usage). usage (get_or ts i 0) (get_or ns i 0) (added_len (get_or ns i 0) block) ∷ us) (gather_ready_from (i + 1) n (omega arith)) ∙ sym (ready_next block ss ts ns i (omega arith) z _ refl)))
+      (λ d. simp (ne_eqb _ _ d) (gather_ready_from (i + 1) n (omega arith) ∙ sym (ready_skip block ss ts ns i (omega arith) d)))
+
+  pub gather_ready : gathered ready_at 0 (length ts) ≡ ready_usages block ss ts ns
+  gather_ready = gather_ready_from 0 (length ts) (omega arith)
+
 -- ---- lists of different lengths
 
 module _ (xs ys zs : List ℕ) where
@@ -145,7 +175,7 @@ module _ (xs ys zs : List ℕ) where
   differ_none e f = simp (eq-eqb (length xs) (length ys) e, eq-eqb (length xs) (length zs) f)
 
 module _ {bad : Bool} {us : List Usage} {r : Posted} where
-  pub counts_bad : bad ≡ true → r ≡ record { refusal = 1; accounts = accounts_of no_tags } → Counts bad us r
+  pub counts_bad : bad ≡ true → r ≡ record { answer = Err Lists; accounts = accounts_of no_tags } → Counts bad us r
   counts_bad b e =
       record {
         answer = rw b e;

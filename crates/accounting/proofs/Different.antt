@@ -1,4 +1,8 @@
 -- The different tags of usages: as many as there are rows, so that a 97th one is refused.
+use Rattle.numbers.proofs.Answers.{no_error}
+use Rattle.numbers.specs.declared.refusal.Refusal.TheVariants.{Lists, Full}
+use Rattle.numbers.specs.declared.refusal.Refusal.{Refusal}
+use Rattle.std.specs.Prelude.{Result, Ok, Err}
 use Prim.Native.Nat.{ℕ, ◌+◌, ◌≤◌, ◌<◌}
 use mathlib.Core.Bool.{Bool, true, false, cond}
 use mathlib.Core.List.{List, [], ◌∷◌}
@@ -130,20 +134,23 @@ usage_rows us = rows_new [] us no_tags tt (λ n i. absurd i) (λ n h. h) ∙ ome
 
 -- ---- 19 exactly where there are more than 96
 
+not_lists : {A : Type 0} → ◌≡◌ {A = Result A Refusal} (Err Lists) (Err Full) → ⊥
+not_lists e = cc
+
 module _ (us : List Usage) where
-  pub few_tags : length (tags_in us) ≤ 96 → handed no_tags (add_all us no_tags) ≡ record { refusal = 0; accounts = accounts_of (add_all us no_tags) }
+  pub few_tags : length (tags_in us) ≤ 96 → handed no_tags (add_all us no_tags) ≡ record { answer = Ok tt; accounts = accounts_of (add_all us no_tags) }
   few_tags h = let e = usage_rows us in handed_fit no_tags (add_all us no_tags) (omega (arith, e, h))
 
-  pub many_tags : 96 < length (tags_in us) → handed no_tags (add_all us no_tags) ≡ record { refusal = 19; accounts = accounts_of no_tags }
+  pub many_tags : 96 < length (tags_in us) → handed no_tags (add_all us no_tags) ≡ record { answer = Err Full; accounts = accounts_of no_tags }
   many_tags h = let e = usage_rows us in handed_full no_tags (add_all us no_tags) (omega (arith, e, h))
 
 -- of `from_usage` and `from_entries`
 module _ {us : List Usage} {r : Posted} where
-  pub counts_many : Counts false us r → 96 < length (tags_in us) → r.refusal ≡ 19
-  counts_many c h = ap (λ (p : Posted). p.refusal) (c.answer ∙ many_tags us h)
+  pub counts_many : Counts false us r → 96 < length (tags_in us) → r.answer ≡ Err Full
+  counts_many c h = ap (λ (p : Posted). p.answer) (c.answer ∙ many_tags us h)
 
-  pub many_counts : (bad : Bool) → Counts bad us r → r.refusal ≡ 19 → (bad ≡ false) × (96 < length (tags_in us))
-  many_counts true c z = let e : ◌≡◌ {A = ℕ} 1 19 = sym (ap (λ (p : Posted). p.refusal) c.answer) ∙ z in absurd (omega (arith, e))
+  pub many_counts : (bad : Bool) → Counts bad us r → r.answer ≡ Err Full → (bad ≡ false) × (96 < length (tags_in us))
+  many_counts true c z = absurd (not_lists (sym (ap (λ (p : Posted). p.answer) c.answer) ∙ z))
   many_counts false c z =
       by_lt 96 (length (tags_in us)) (λ l. (refl, l))
-      (λ l. let e : ◌≡◌ {A = ℕ} 0 19 = sym (ap (λ (p : Posted). p.refusal) (c.answer ∙ few_tags us l)) ∙ z in absurd (omega (arith, e)))
+      (λ l. absurd (no_error _ _ (sym (ap (λ (p : Posted). p.answer) (c.answer ∙ few_tags us l)) ∙ z)))

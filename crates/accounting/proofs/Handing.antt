@@ -1,20 +1,19 @@
 -- What a posting hands back: of a tag that has a row, of one that has none, and of a 97th.
+use Rattle.numbers.proofs.Answers.{no_error}
+use Rattle.numbers.specs.declared.refusal.Refusal.TheVariants.{Lists, Full}
+use Rattle.std.specs.Prelude.{Ok, Err}
 use Prim.Native.Nat.{ℕ, suc, ◌+◌, ◌-◌, ◌≤◌, ◌<◌}
-use mathlib.Core.Bool.{Bool, true, false, and-true}
+use mathlib.Core.Bool.{Bool, true}
 use mathlib.Core.List.{List, ◌∷◌, ◌++◌}
 use mathlib.Core.Path.{◌≡◌, refl, ap, sym, subst, ◌∙◌}
 use native.Mathlib.Omega.{arith}
-use lib.Dec.{eqb}
 use lib.ListN.{length, get_or, take, drop, set, replicate, length-append, length-take, length-drop, length-set}
 use lib.Seq.{set-append_left, set-get_or}
 use borrow.Author.Tests.{lt-ltb, le-ltb, eq-eqb, ne_eqb}
-use Rattle.accounting.specs.Inner.{Sought, posted, shifted, inserted}
+use Rattle.accounting.specs.Inner.{KeepsTag, Known, Belongs, shifted, inserted}
 use Rattle.accounting.specs.Table.{Table, InTagOrder, Valid, Posts, Asks, accounts_of, table_of, tag_of, row_of, put, on_row, with_total, same, handed, asked}
 use Rattle.accounting.specs.declared.Accounting.{Accounting}
 use Rattle.accounting.specs.declared.Posted.{Posted}
-use Rattle.accounting.specs.declared.posting.Posting.{Posting}
-use Rattle.accounting.specs.declared.posting.Posting.TheVariants.{AddUsage, RemoveUsage, Reserve, Unreserve, SetCap}
-use Rattle.accounting.specs.declared.table.Spot.{Spot}
 use Rattle.tagspace.specs.Row.{blank, allows, fits}
 use Rattle.tagspace.specs.declared.TagSpace.{TagSpace}
 use Rattle.accounting.proofs.Shifting.{shifted_blanks}
@@ -22,16 +21,12 @@ use Rattle.accounting.proofs.Tables.{accounts_valid, count_rows, all_rows, row_o
 use Rattle.numbers.proofs.Cases.{by_lt, by_eq}
 use Rattle.numbers.proofs.Keyed.{keyed_known, put_known, keyed_unknown, put_unknown, put_order}
 
--- a rule that leaves the tag as it is
-abbrev pub KeepsTag : (TagSpace → TagSpace) → Type 0
-KeepsTag rule = (r : TagSpace) → (rule r).tag ≡ r.tag
-
 module _ (t next : Table) where
-  pub handed_fit : length next.rows ≤ 96 → handed t next ≡ record { refusal = 0; accounts = accounts_of next }
+  pub handed_fit : length next.rows ≤ 96 → handed t next ≡ record { answer = Ok tt; accounts = accounts_of next }
   unfolding handed
   handed_fit h = simp (le-ltb 96 (length next.rows) h)
 
-  pub handed_full : 96 < length next.rows → handed t next ≡ record { refusal = 19; accounts = accounts_of t }
+  pub handed_full : 96 < length next.rows → handed t next ≡ record { answer = Err Full; accounts = accounts_of t }
   unfolding handed
   handed_full h = simp (lt-ltb 96 (length next.rows) h)
 
@@ -63,19 +58,19 @@ made_of rs n m t p q s = rw (p, q, s)
 
 -- one row more, by how many there are
 module _ (k : ℕ) (x : TagSpace) (a : Accounting) where
-  pub inserted_many : 96 < a.count → inserted k x a ≡ record { refusal = 1; accounts = a }
+  pub inserted_many : 96 < a.count → inserted k x a ≡ record { answer = Err Lists; accounts = a }
   unfolding inserted
   inserted_many h = simp (lt-ltb 96 a.count h)
 
-  pub inserted_full : a.count ≡ 96 → inserted k x a ≡ record { refusal = 19; accounts = a }
+  pub inserted_full : a.count ≡ 96 → inserted k x a ≡ record { answer = Err Full; accounts = a }
   unfolding inserted
   inserted_full e = simp (le-ltb 96 a.count (omega arith), eq-eqb a.count 96 e)
 
-  pub inserted_room : a.count < 96 → inserted k x a ≡ record { refusal = 0; accounts = record { rows = shifted k a.count x a.rows; count = a.count + 1; reserved = a.reserved } }
+  pub inserted_room : a.count < 96 → inserted k x a ≡ record { answer = Ok tt; accounts = record { rows = shifted k a.count x a.rows; count = a.count + 1; reserved = a.reserved } }
   unfolding inserted
   inserted_room h = simp (le-ltb 96 a.count (omega arith), ne_eqb a.count 96 (λ e. omega (arith, e, h)))
 
-module _ (a : Accounting) (v : Valid a) (tag : ℕ) (s : Spot) (f : Sought a tag s) where
+module _ (a : Accounting) (v : Valid a) (tag at : ℕ) where
   abbrev xs : List TagSpace
   xs = (table_of a).rows
 
@@ -83,96 +78,88 @@ module _ (a : Accounting) (v : Valid a) (tag : ℕ) (s : Spot) (f : Sought a tag
   unfolding table_of
   reserved_total = refl
 
-  place_in : s.at ≤ length xs
-  place_in = let c = count_rows a v in omega (arith, c, f.inside)
-
   -- the tag has a row
-  module _ (z : s.known ≡ true) where
-    in_rows : s.at < length xs
-    in_rows = let c = count_rows a v in let h = f.few z in omega (arith, c, h.1)
+  module _ (f : Known a tag at) where
+    in_rows : at < length xs
+    in_rows = let c = count_rows a v in omega (arith, c, f.inside)
 
-    has_tag : (get_or xs s.at (blank 0)).tag ≡ tag
-    has_tag = subst (λ (r : TagSpace). r.tag ≡ tag) (row_of_record a v s.at) (f.own z)
+    has_tag : (get_or xs at (blank 0)).tag ≡ tag
+    has_tag = subst (λ (r : TagSpace). r.tag ≡ tag) (row_of_record a v at) f.own
 
-    pub found_row : row_of tag xs ≡ get_or a.rows s.at (blank 0)
-    found_row = keyed_known tag_of xs v.order s.at tag (blank 0) in_rows has_tag (blank tag) ∙ sym (row_of_record a v s.at)
+    pub found_row : row_of tag xs ≡ get_or a.rows at (blank 0)
+    found_row = keyed_known tag_of xs v.order at tag (blank 0) in_rows has_tag (blank tag) ∙ sym (row_of_record a v at)
 
-    pub post_known : (rule : TagSpace → TagSpace) → KeepsTag rule → (x : TagSpace) → x ≡ rule (get_or a.rows s.at (blank 0)) → record { refusal = 0; accounts = record { rows = set a.rows s.at x; count = a.count; reserved = a.reserved } } ≡ handed (table_of a) (on_row tag rule (table_of a))
+    pub post_known : (rule : TagSpace → TagSpace) → KeepsTag rule → (x : TagSpace) → x ≡ rule (get_or a.rows at (blank 0)) → record { answer = Ok tt; accounts = record { rows = set a.rows at x; count = a.count; reserved = a.reserved } } ≡ handed (table_of a) (on_row tag rule (table_of a))
     unfolding on_row
     post_known rule keeps x q =
-        let t : x.tag ≡ tag = ap (λ (r : TagSpace). r.tag) q ∙ keeps (get_or a.rows s.at (blank 0)) ∙ f.own z in
-        let p : put (rule (row_of tag xs)) xs ≡ set xs s.at x = ap (λ (r : TagSpace). put (rule r) xs) found_row ∙ ap (λ (r : TagSpace). put r xs) (sym q) ∙ put_known tag_of xs v.order s.at tag (blank 0) in_rows has_tag x t in
-        let n : length (put (rule (row_of tag xs)) xs) ≡ length xs = ap length p ∙ length-set xs s.at x in
+        let t : x.tag ≡ tag = ap (λ (r : TagSpace). r.tag) q ∙ keeps (get_or a.rows at (blank 0)) ∙ f.own in
+        let p : put (rule (row_of tag xs)) xs ≡ set xs at x = ap (λ (r : TagSpace). put (rule r) xs) found_row ∙ ap (λ (r : TagSpace). put r xs) (sym q) ∙ put_known tag_of xs v.order at tag (blank 0) in_rows has_tag x t in
+        let n : length (put (rule (row_of tag xs)) xs) ≡ length xs = ap length p ∙ length-set xs at x in
         let c = count_rows a v in
-        ap (λ (b : Accounting). record { refusal = 0; accounts = b })
-        (made_of (set a.rows s.at x) a.count a.reserved (on_row tag rule (table_of a))
-        (ap (λ (l : List TagSpace). set l s.at x) (all_rows a v) ∙ set-append_left xs (replicate (96 - length xs) (blank 0)) s.at x in_rows ∙ rw (n, p))
+        ap (λ (b : Accounting). record { answer = Ok tt; accounts = b })
+        (made_of (set a.rows at x) a.count a.reserved (on_row tag rule (table_of a))
+        (ap (λ (l : List TagSpace). set l at x) (all_rows a v) ∙ set-append_left xs (replicate (96 - length xs) (blank 0)) at x in_rows ∙ rw (n, p))
         (c ∙ sym n) reserved_total)
         ∙ sym (handed_fit (table_of a) (on_row tag rule (table_of a)) (omega (arith, n, c, v.few)))
 
     -- and is only asked for
-    pub asked_known : record { refusal = 0; accounts = a } ≡ handed (table_of a) (on_row tag same (table_of a))
-    asked_known = ap (λ (l : List TagSpace). record { refusal = 0; accounts = record { rows = l; count = a.count; reserved = a.reserved } }) (sym (set-get_or a.rows s.at (blank 0))) ∙ post_known same (λ r. refl) (get_or a.rows s.at (blank 0)) refl
+    pub asked_known : record { answer = Ok tt; accounts = a } ≡ handed (table_of a) (on_row tag same (table_of a))
+    asked_known = ap (λ (l : List TagSpace). record { answer = Ok tt; accounts = record { rows = l; count = a.count; reserved = a.reserved } }) (sym (set-get_or a.rows at (blank 0))) ∙ post_known same (λ r. refl) (get_or a.rows at (blank 0)) refl
 
   -- it has none
-  module _ (z : s.known ≡ false) where
+  module _ (f : Belongs a tag at) where
+    place_in : at ≤ length xs
+    place_in = let c = count_rows a v in omega (arith, c, f.inside)
+
     pub no_row : row_of tag xs ≡ blank tag
-    no_row = keyed_unknown tag_of xs s.at tag (f.lower z v) (f.higher z v) (blank tag)
+    no_row = keyed_unknown tag_of xs at tag (f.lower v) (f.higher v) (blank tag)
 
     module _ (rule : TagSpace → TagSpace) (keeps : KeepsTag rule) (x : TagSpace) (q : x ≡ rule (blank tag)) where
-      put_new : put (rule (row_of tag xs)) xs ≡ take s.at xs ++ (x ∷ drop s.at xs)
+      put_new : put (rule (row_of tag xs)) xs ≡ take at xs ++ (x ∷ drop at xs)
       put_new =
           ap (λ (r : TagSpace). put (rule r) xs) no_row
           ∙ ap (λ (r : TagSpace). put r xs) (sym q)
-          ∙ put_unknown tag_of xs s.at tag (f.lower z v) (f.higher z v) x (ap (λ (r : TagSpace). r.tag) q ∙ keeps (blank tag))
+          ∙ put_unknown tag_of xs at tag (f.lower v) (f.higher v) x (ap (λ (r : TagSpace). r.tag) q ∙ keeps (blank tag))
 
       one_more : length (put (rule (row_of tag xs)) xs) ≡ suc (length xs)
       one_more = ap length put_new ∙ simp (length-append, length-take, length-drop) (omega (arith, place_in))
 
       -- a 97th tag
-      post_full : a.count ≡ 96 → record { refusal = 19; accounts = a } ≡ handed (table_of a) (on_row tag rule (table_of a))
+      post_full : a.count ≡ 96 → record { answer = Err Full; accounts = a } ≡ handed (table_of a) (on_row tag rule (table_of a))
       unfolding on_row
       post_full h =
           let c = count_rows a v in
-          ap (λ (b : Accounting). record { refusal = 19; accounts = b }) v.record_of
+          ap (λ (b : Accounting). record { answer = Err Full; accounts = b }) v.record_of
           ∙ sym (handed_full (table_of a) (on_row tag rule (table_of a)) (let n = one_more in omega (arith, n, c, h)))
 
-      post_new : a.count < 96 → record { refusal = 0; accounts = record { rows = shifted s.at a.count x a.rows; count = a.count + 1; reserved = a.reserved } } ≡ handed (table_of a) (on_row tag rule (table_of a))
+      post_new : a.count < 96 → record { answer = Ok tt; accounts = record { rows = shifted at a.count x a.rows; count = a.count + 1; reserved = a.reserved } } ≡ handed (table_of a) (on_row tag rule (table_of a))
       unfolding on_row
       post_new h =
           let c = count_rows a v in
           let n = one_more in
           let m : 96 - length xs ≡ suc (96 - suc (length xs)) = omega (arith, c, h) in
-          ap (λ (b : Accounting). record { refusal = 0; accounts = b })
-          (made_of (shifted s.at a.count x a.rows) (a.count + 1) a.reserved (on_row tag rule (table_of a))
-          (ap (λ (i : ℕ). shifted s.at i x a.rows) c
-          ∙ ap (λ (l : List TagSpace). shifted s.at (length xs) x l) (all_rows a v ∙ ap (λ (i : ℕ). xs ++ replicate i (blank 0)) m)
-          ∙ shifted_blanks xs (blank 0) x s.at (96 - suc (length xs)) place_in
+          ap (λ (b : Accounting). record { answer = Ok tt; accounts = b })
+          (made_of (shifted at a.count x a.rows) (a.count + 1) a.reserved (on_row tag rule (table_of a))
+          (ap (λ (i : ℕ). shifted at i x a.rows) c
+          ∙ ap (λ (l : List TagSpace). shifted at (length xs) x l) (all_rows a v ∙ ap (λ (i : ℕ). xs ++ replicate i (blank 0)) m)
+          ∙ shifted_blanks xs (blank 0) x at (96 - suc (length xs)) place_in
           ∙ rw (n, put_new))
           (omega (arith, c, n)) reserved_total)
           ∙ sym (handed_fit (table_of a) (on_row tag rule (table_of a)) (omega (arith, n, c, h)))
 
-      pub post_unknown : inserted s.at x a ≡ handed (table_of a) (on_row tag rule (table_of a))
+      pub post_unknown : inserted at x a ≡ handed (table_of a) (on_row tag rule (table_of a))
       post_unknown =
-          by_eq a.count 96 (λ e. inserted_full s.at x a e ∙ post_full e)
-          (λ n. let h : a.count < 96 = omega (arith, v.few) in inserted_room s.at x a h ∙ post_new h)
-
-pub posted_keeps : (p : Posting) → KeepsTag (posted p)
-unfolding posted
-posted_keeps (AddUsage l p) r = refl
-posted_keeps (RemoveUsage l p) r = refl
-posted_keeps (Reserve b) r = refl
-posted_keeps (Unreserve b) r = refl
-posted_keeps (SetCap k) r = refl
+          by_eq a.count 96 (λ e. inserted_full at x a e ∙ post_full e)
+          (λ n. let h : a.count < 96 = omega (arith, v.few) in inserted_room at x a h ∙ post_new h)
 
 -- ---- what is promised of a posting, by what the search found
 
-module _ (a : Accounting) (tag : ℕ) (s : Spot) (f : Sought a tag s) (rule : TagSpace → TagSpace) (keeps : KeepsTag rule) (x : TagSpace) where
-  pub posts_known : s.known ≡ true → x ≡ rule (get_or a.rows s.at (blank 0)) → Posts a (on_row tag rule) (record { refusal = 0; accounts = record { rows = set a.rows s.at x; count = a.count; reserved = a.reserved } })
-  posts_known z q = posts a (on_row tag rule) _ (on_row_order tag rule) (λ v. post_known a v tag s f z rule keeps x q)
+module _ (a : Accounting) (tag at : ℕ) (rule : TagSpace → TagSpace) (keeps : KeepsTag rule) (x : TagSpace) where
+  pub posts_known : Known a tag at → x ≡ rule (get_or a.rows at (blank 0)) → Posts a (on_row tag rule) (record { answer = Ok tt; accounts = record { rows = set a.rows at x; count = a.count; reserved = a.reserved } })
+  posts_known f q = posts a (on_row tag rule) _ (on_row_order tag rule) (λ v. post_known a v tag at f rule keeps x q)
 
-  pub posts_unknown : s.known ≡ false → x ≡ rule (blank tag) → (p : Posted) → p ≡ inserted s.at x a → Posts a (on_row tag rule) p
-  posts_unknown z q p e = posts a (on_row tag rule) p (on_row_order tag rule) (λ v. e ∙ post_unknown a v tag s f z rule keeps x q)
+  pub posts_unknown : Belongs a tag at → x ≡ rule (blank tag) → (p : Posted) → p ≡ inserted at x a → Posts a (on_row tag rule) p
+  posts_unknown f q p e = posts a (on_row tag rule) p (on_row_order tag rule) (λ v. e ∙ post_unknown a v tag at f rule keeps x q)
 
 -- ---- the total beside the rows
 
@@ -180,36 +167,50 @@ total_of : (n : ℕ) (t : Table) → record { rows = (accounts_of t).rows; count
 unfolding accounts_of
 total_of n t = refl
 
-module _ (a : Accounting) (next : Table → Table) (total : Table → ℕ) (p : Posted) (g : Posts a next p) where
+total_accounts : (t : Table) → (accounts_of t).reserved ≡ t.total
+unfolding accounts_of
+total_accounts t = refl
+
+module _ (a : Accounting) (tag : ℕ) (rule : TagSpace → TagSpace) (total : ℕ → ℕ) (p : Posted) (g : Posts a (on_row tag rule) p) where
   abbrev both : Table → Table
-  both t = with_total (total t) (next t)
+  both t = with_total (total t.total) (on_row tag rule t)
 
-  pub total_kept : ((t : Table) → InTagOrder t.rows → InTagOrder (next t).rows) → (p.refusal ≡ 0 → ⊥) → Posts a both p
-  total_kept o n =
-      posts a both p o
+  abbrev next : Table
+  next = on_row tag rule (table_of a)
+
+  same_total : next.total ≡ (table_of a).total
+  unfolding on_row
+  same_total = refl
+
+  pub total_kept : (p.answer ≡ Ok tt → ⊥) → Posts a both p
+  total_kept n =
+      posts a both p (on_row_order tag rule)
       (λ v.
       let e = g.answer v in
-      by_lt 96 (length (next (table_of a)).rows)
-      (λ l. e ∙ handed_full (table_of a) (next (table_of a)) l ∙ sym (handed_full (table_of a) (both (table_of a)) l))
-      (λ l. absurd (n (ap (λ (q : Posted). q.refusal) (e ∙ handed_fit (table_of a) (next (table_of a)) l)))))
+      by_lt 96 (length next.rows)
+      (λ l. e ∙ handed_full (table_of a) next l ∙ sym (handed_full (table_of a) (both (table_of a)) l))
+      (λ l. absurd (n (ap (λ (q : Posted). q.answer) (e ∙ handed_fit (table_of a) next l)))))
 
-  pub total_posted : ((t : Table) → InTagOrder t.rows → InTagOrder (next t).rows) → p.refusal ≡ 0 → (n : ℕ) → (Valid a → n ≡ total (table_of a)) → Posts a both (record { refusal = 0; accounts = record { rows = p.accounts.rows; count = p.accounts.count; reserved = n } })
-  total_posted o z n q =
-      posts a both _ o
+  pub total_posted : p.answer ≡ Ok tt → (n : ℕ) → n ≡ total p.accounts.reserved
+      → Posts a both (record { answer = Ok tt; accounts = record { rows = p.accounts.rows; count = p.accounts.count; reserved = n } })
+  total_posted z n q =
+      posts a both _ (on_row_order tag rule)
       (λ v.
       let e = g.answer v in
-      by_lt 96 (length (next (table_of a)).rows)
-      (λ l. let w : ◌≡◌ {A = ℕ} 0 19 = sym z ∙ ap (λ (r : Posted). r.refusal) (e ∙ handed_full (table_of a) (next (table_of a)) l) in absurd (omega (arith, w)))
+      by_lt 96 (length next.rows)
+      (λ l. absurd (no_error _ _ (sym z ∙ ap (λ (r : Posted). r.answer) (e ∙ handed_full (table_of a) next l))))
       (λ l.
-      let s : p.accounts ≡ accounts_of (next (table_of a)) = ap (λ (r : Posted). r.accounts) (e ∙ handed_fit (table_of a) (next (table_of a)) l) in
-      ap (λ (b : Accounting). record { refusal = 0; accounts = record { rows = b.rows; count = b.count; reserved = n } }) s
-      ∙ ap (λ (m : ℕ). record { refusal = 0; accounts = record { rows = (accounts_of (next (table_of a))).rows; count = (accounts_of (next (table_of a))).count; reserved = m } }) (q v)
-      ∙ ap (λ (b : Accounting). record { refusal = 0; accounts = b }) (total_of (total (table_of a)) (next (table_of a)))
+      let b : Accounting = accounts_of next in
+      let s : p.accounts ≡ b = ap (λ (r : Posted). r.accounts) (e ∙ handed_fit (table_of a) next l) in
+      let m : n ≡ total (table_of a).total = q ∙ ap total (ap (λ (d : Accounting). d.reserved) s ∙ total_accounts next ∙ same_total) in
+      ap (λ (d : Accounting). record { answer = Ok tt; accounts = record { rows = d.rows; count = d.count; reserved = n } }) s
+      ∙ ap (λ (k : ℕ). record { answer = Ok tt; accounts = record { rows = b.rows; count = b.count; reserved = k } }) m
+      ∙ ap (λ (d : Accounting). record { answer = Ok tt; accounts = d }) (total_of (total (table_of a).total) next)
       ∙ sym (handed_fit (table_of a) (both (table_of a)) l)))
 
 -- ---- `fits`
 
-module _ (a : Accounting) (tag extra : ℕ) (s : Spot) (f : Sought a tag s) where
+module _ (a : Accounting) (tag extra at : ℕ) where
   asks : (p : Posted) (ok : Bool) → (Valid a → p ≡ handed (table_of a) (on_row tag same (table_of a))) → (Valid a → ok ≡ fits extra (row_of tag (table_of a).rows)) → Asks a tag extra (asked p ok)
   asks p ok e q =
       record {
@@ -217,11 +218,9 @@ module _ (a : Accounting) (tag extra : ℕ) (s : Spot) (f : Sought a tag s) wher
         valid = (posts a (on_row tag same) p (on_row_order tag same) e).valid;
       }
 
-  pub asks_known : s.known ≡ true → (ok : Bool) → ok ≡ fits extra (get_or a.rows s.at (blank 0)) → Asks a tag extra (record { refusal = 0; fits = ok; accounts = a })
-  asks_known z ok q = asks (record { refusal = 0; accounts = a }) ok (λ v. asked_known a v tag s f z) (λ v. q ∙ ap (fits extra) (sym (found_row a v tag s f z)))
+  pub asks_known : Known a tag at → (ok : Bool) → ok ≡ fits extra (get_or a.rows at (blank 0)) → Asks a tag extra (record { answer = Ok ok; accounts = a })
+  asks_known f ok q = asks (record { answer = Ok tt; accounts = a }) ok (λ v. asked_known a v tag at f) (λ v. q ∙ ap (fits extra) (sym (found_row a v tag at f)))
 
-  pub asks_unknown : s.known ≡ false → (x : TagSpace) → x ≡ blank tag → (p : Posted) → p ≡ inserted s.at x a → Asks a tag extra (record { refusal = p.refusal; fits = eqb p.refusal 0; accounts = p.accounts })
+  pub asks_unknown : Belongs a tag at → (x : TagSpace) → x ≡ blank tag → (p : Posted) → p ≡ inserted at x a → Asks a tag extra (asked p true)
   unfolding fits allows
-  asks_unknown z x q p e =
-      subst (λ (b : Bool). Asks a tag extra (record { refusal = p.refusal; fits = b; accounts = p.accounts })) (and-true (eqb p.refusal 0))
-      (asks p true (λ v. e ∙ post_unknown a v tag s f z same (λ r. refl) x q) (λ v. ap (fits extra) (sym (no_row a v tag s f z))))
+  asks_unknown f x q p e = asks p true (λ v. e ∙ post_unknown a v tag at f same (λ r. refl) x q) (λ v. ap (fits extra) (sym (no_row a v tag at f)))

@@ -1,18 +1,22 @@
 -- Records and what they mean: the record of a table, and where a tag's row stands in it.
 use Prim.Native.Nat.{ℕ, zero, suc, ◌+◌, ◌-◌, ◌≤◌, ◌<◌}
-use mathlib.Core.Bool.{true, false}
 use mathlib.Core.List.{List, [], ◌∷◌, ◌++◌}
 use mathlib.Core.Path.{◌≡◌, refl, ap, sym, subst, ◌∙◌}
 use native.Mathlib.Omega.{arith}
-use lib.ListN.{length, get_or, take, drop, replicate, length-drop, get_or-map, get_or-eq_default}
+use lib.ListN.{length, get_or, take, drop, replicate, length-drop, length-take, get_or-eq_default}
 use lib.Seq.{take-append_seam, get_or-take, get_or-drop, length-take-le}
-use Rattle.accounting.specs.Inner.{Lower, Higher, Sought, tags_of}
+use Rattle.accounting.specs.Inner.{Belongs, Sought}
 use Rattle.accounting.specs.Table.{Table, InTagOrder, Valid, accounts_of, table_of, tag_of}
 use Rattle.accounting.specs.declared.Accounting.{Accounting}
-use Rattle.numbers.specs.Search.{Rising, Found}
+use Rattle.std.specs.Cmp.{nat_cmp_is}
+use Rattle.std.specs.List.Sorted.{IsNonDecreasingBy, IsBinarySearchResult, IsSearchInRange}
+use Rattle.std.specs.Ordering.{nat_cmp, ordering_index}
+use Rattle.std.specs.Prelude.{Result, Ok, Err}
+use Rattle.std.specs.declared.cmp.Ordering.{Ordering}
+use Rattle.std.specs.declared.cmp.Ordering.TheVariants.{Less, Equal, Greater}
 use Rattle.tagspace.specs.Row.{blank}
 use Rattle.tagspace.specs.declared.TagSpace.{TagSpace}
-use Rattle.numbers.proofs.Cases.{clash, by_eq}
+use Rattle.numbers.proofs.Cases.{by_eq, by_lt}
 use Rattle.numbers.proofs.Keyed.{order_at}
 use Rattle.numbers.proofs.Lists.{all_of}
 
@@ -37,9 +41,44 @@ get_or_blanks [] b (suc m) (suc i) = get_or_blanks [] b m i
 get_or_blanks (x ∷ xs) b m zero = refl
 get_or_blanks (x ∷ xs) b m (suc i) = get_or_blanks xs b m i
 
-pub tag_at : (a : Accounting) (i : ℕ) → get_or (tags_of a) i 0 ≡ (get_or a.rows i (blank 0)).tag
-unfolding tags_of
-tag_at a i = get_or-map (λ (r : TagSpace). r.tag) a.rows i (blank 0)
+-- what the order of two numbers tells
+module _ (x y : ℕ) where
+  cmp_less : x < y → nat_cmp x y ≡ Less
+  cmp_less h = sym (nat_cmp_is x y Less h)
+
+  cmp_same : x ≡ y → nat_cmp x y ≡ Equal
+  cmp_same h = sym (nat_cmp_is x y Equal h)
+
+  cmp_greater : y < x → nat_cmp x y ≡ Greater
+  cmp_greater h = sym (nat_cmp_is x y Greater h)
+
+  index_of : {o r : Ordering} → nat_cmp x y ≡ o → nat_cmp x y ≡ r → ordering_index o ≡ ordering_index r
+  index_of e f = ap ordering_index (sym e ∙ f)
+
+  is_less : nat_cmp x y ≡ Less → x < y
+  is_less e =
+      by_lt x y (λ h. h)
+      (λ h. by_eq x y (λ q. let z = index_of (cmp_same q) e in omega arith) (λ d. let z = index_of (cmp_greater (omega arith)) e in omega arith))
+
+  is_same : nat_cmp x y ≡ Equal → x ≡ y
+  is_same e =
+      by_eq x y (λ q. q)
+      (λ d. by_lt x y (λ h. let z = index_of (cmp_less h) e in omega arith) (λ h. let z = index_of (cmp_greater (omega arith)) e in omega arith))
+
+  is_greater : nat_cmp x y ≡ Greater → y < x
+  is_greater e =
+      by_lt y x (λ h. h)
+      (λ h. by_eq x y (λ q. let z = index_of (cmp_same q) e in omega arith) (λ d. let z = index_of (cmp_less (omega arith)) e in omega arith))
+
+index_rises : (x y t : ℕ) → x ≤ y → ordering_index (nat_cmp x t) ≤ ordering_index (nat_cmp y t)
+index_rises x y t h =
+    by_lt x t (λ l. let a = ap ordering_index (cmp_less x t l) in omega arith)
+    (λ l. by_eq y t
+    (λ q. let a = ap ordering_index (cmp_same x t (omega arith)) in let b = ap ordering_index (cmp_same y t q) in omega arith)
+    (λ d.
+    let b = ap ordering_index (cmp_greater y t (omega arith)) in
+    by_eq x t (λ q. let a = ap ordering_index (cmp_same x t q) in omega arith)
+    (λ n. let a = ap ordering_index (cmp_greater x t (omega arith)) in omega arith)))
 
 module _ (a : Accounting) (v : Valid a) where
   abbrev xs : List TagSpace
@@ -59,71 +98,45 @@ module _ (a : Accounting) (v : Valid a) where
   pub row_behind_all : (i : ℕ) → 96 ≤ i → get_or xs i (blank 0) ≡ blank 0
   row_behind_all i h = get_or-eq_default xs (blank 0) (omega (arith, count_rows, v.few))
 
-  tag_of_record : (i : ℕ) → get_or (tags_of a) i 0 ≡ (get_or xs i (blank 0)).tag
-  tag_of_record i = tag_at a i ∙ ap (λ (r : TagSpace). r.tag) (row_of_record i)
-
-  rising : Rising (tags_of a) a.count
-  rising i j h l =
-      rw (tag_of_record i, tag_of_record j)
-      (by_eq i j (λ e. rw e (omega arith)) (λ n. let s = order_at tag_of xs v.order i j (blank 0) (omega arith) (omega (arith, count_rows)) in omega (arith, s)))
-
-  module _ (tag k : ℕ) (f : Found (tags_of a) a.count tag k) where
-    place_in : k ≤ length xs
-    place_in = omega (arith, f.inside, count_rows)
-
-    at_or_below : 0 < k → (get_or xs (k - 1) (blank 0)).tag ≤ tag
-    at_or_below h = rw (sym (tag_of_record (k - 1))) (f.below h)
-
-    -- the row in front of the place has another tag: no row has this one
-    module _ (other : 0 < k → (get_or xs (k - 1) (blank 0)).tag ≡ tag → ⊥) where
-      rows_lower : Lower tag (take k xs)
-      rows_lower =
-          let n : length (take k xs) ≡ k = length-take-le k xs place_in in
-          all_of (λ (q : TagSpace). q.tag < tag) (take k xs) (blank 0)
-          (λ i h.
-          rw (get_or-take k xs i (blank 0) (omega arith))
-          (by_eq i (k - 1)
-          (λ e. rw e (let b = at_or_below (omega arith) in by_eq (get_or xs (k - 1) (blank 0)).tag tag (λ z. absurd (other (omega arith) z)) (λ z. omega arith)))
-          (λ e. let b = at_or_below (omega arith) in let s = order_at tag_of xs v.order i (k - 1) (blank 0) (omega arith) (omega (arith, place_in)) in omega arith)))
-
-      rows_higher : Higher tag (drop k xs)
-      rows_higher =
-          let n : length (drop k xs) ≡ length xs - k = length-drop k xs in
-          all_of (λ (q : TagSpace). tag < q.tag) (drop k xs) (blank 0)
-          (λ i h.
-          rw (get_or-drop k xs i (blank 0), sym (tag_of_record (k + i)))
-          (f.above rising (k + i) (omega arith) (omega (arith, count_rows))))
+  rising : (tag : ℕ) → IsNonDecreasingBy (λ (r : TagSpace). ordering_index (nat_cmp r.tag tag)) xs
+  rising tag i j d h l =
+      by_eq i j (λ e. rw e (omega arith))
+      (λ n. index_rises (get_or xs i d).tag (get_or xs j d).tag tag (let s = order_at tag_of xs v.order i j d (omega arith) l in omega arith))
 
 -- ---- what the search finds
 
 module _ (a : Accounting) (tag : ℕ) where
-  pub sought_none : 96 < a.count → Sought a tag (record { known = false; at = 0 })
+  pub sought_none : 96 < a.count → Belongs a tag 0
   sought_none h =
       record {
         inside = omega arith;
-        few = λ z. clash {b = false} z refl;
-        own = λ z. clash {b = false} z refl;
-        lower = λ z v. absurd (omega (arith, v.few, h));
-        higher = λ z v. absurd (omega (arith, v.few, h));
+        lower = λ v. absurd (omega (arith, v.few, h));
+        higher = λ v. absurd (omega (arith, v.few, h));
       }
 
-  module _ (few : a.count ≤ 96) (k : ℕ) (f : Found (tags_of a) a.count tag k) where
-    pub sought_row : 0 < k → (get_or a.rows (k - 1) (blank 0)).tag ≡ tag → Sought a tag (record { known = true; at = k - 1 })
-    sought_row h e =
-        record {
-          inside = omega (arith, f.inside);
-          few = λ z. (few, omega (arith, f.inside, h));
-          own = λ z. e;
-          lower = λ z v. clash {b = true} refl z;
-          higher = λ z v. clash {b = true} refl z;
-        }
+  abbrev front : List TagSpace
+  front = take a.count a.rows
 
-    pub sought_place : (0 < k → (get_or a.rows (k - 1) (blank 0)).tag ≡ tag → ⊥) → Sought a tag (record { known = false; at = k })
-    sought_place other =
-        record {
-          inside = f.inside;
-          few = λ z. clash {b = false} z refl;
-          own = λ z. clash {b = false} z refl;
-          lower = λ z v. rows_lower a v tag k f (λ h e. other h (subst (λ (r : TagSpace). r.tag ≡ tag) (sym (row_of_record a v (k - 1))) e));
-          higher = λ z v. rows_higher a v tag k f (λ h e. other h (subst (λ (r : TagSpace). r.tag ≡ tag) (sym (row_of_record a v (k - 1))) e));
-        }
+  pub sought : a.count ≤ 96 → (r : Result ℕ ℕ) → IsSearchInRange r (length front) → IsBinarySearchResult (λ (q : TagSpace). nat_cmp q.tag tag) front r → Sought a tag r
+  unfolding table_of
+  sought few (Ok i) b f =
+      let n = length-take a.count a.rows in
+      let h : i < a.count = omega arith in
+      record {
+        few = few;
+        inside = h;
+        own = ap (λ (q : TagSpace). q.tag) (sym (get_or-take a.count a.rows i (blank 0) h)) ∙ is_same _ tag (f (blank 0));
+      }
+  sought few (Err i) b f =
+      let n = length-take a.count a.rows in
+      record {
+        inside = omega arith;
+        lower = λ v.
+            let m : length (take i front) ≡ i = length-take-le i front b in
+            all_of (λ (q : TagSpace). q.tag < tag) (take i front) (blank 0)
+            (λ k h. rw (get_or-take i front k (blank 0) (omega arith)) (is_less _ tag ((f (rising a v tag)).0 k (blank 0) (omega arith) (omega arith))));
+        higher = λ v.
+            let m : length (drop i front) ≡ length front - i = length-drop i front in
+            all_of (λ (q : TagSpace). tag < q.tag) (drop i front) (blank 0)
+            (λ k h. rw (get_or-drop i front k (blank 0)) (is_greater _ tag ((f (rising a v tag)).1 (i + k) (blank 0) (omega arith) (omega arith))));
+      }

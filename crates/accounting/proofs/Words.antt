@@ -1,4 +1,6 @@
 -- What the definitions say of each tag's row: the laws for whoever keeps accounts.
+use Rattle.numbers.specs.declared.refusal.Refusal.TheVariants.{Full}
+use Rattle.std.specs.Prelude.{Ok, Err}
 use Prim.Native.Nat.{ℕ, ◌+◌, ◌-◌, ◌≤◌, ◌<◌}
 use mathlib.Core.List.{List, [], ◌∷◌, map}
 use mathlib.Core.Logic.{◌⊎◌, inl, inr, ⊎_elim}
@@ -13,7 +15,8 @@ use Rattle.numbers.specs.Lists.{Any}
 use Rattle.numbers.specs.Sums.{top, stop, sum}
 use Rattle.tagspace.specs.Row.{blank, add_usage, remove_usage}
 use Rattle.tagspace.specs.declared.TagSpace.{TagSpace}
-use Rattle.accounting.proofs.Handing.{KeepsTag, handed_fit, handed_full}
+use Rattle.accounting.specs.Inner.{KeepsTag}
+use Rattle.accounting.proofs.Handing.{handed_fit, handed_full}
 use Rattle.numbers.proofs.Cases.{by_eq}
 use Rattle.numbers.proofs.Keyed.{keyed_any_key, keyed_own, keyed_other, put_put, has_put, own_has, other_has, length_made, length_kept, put_least, put_same}
 
@@ -66,13 +69,13 @@ module _ (tag : ℕ) (rule : TagSpace → TagSpace) (keeps : KeepsTag rule) (t :
   rows_kept o h = length_kept tag_of x t.rows o (subst (λ (i : ℕ). HasRow i t.rows) (sym rule_tag) h)
 
   -- 19 is given exactly where the tag has no row and 96 others have
-  pub refused_full : (HasRow tag t.rows → ⊥) → 96 ≤ length t.rows → handed t (on_row tag rule t) ≡ record { refusal = 19; accounts = accounts_of t }
+  pub refused_full : (HasRow tag t.rows → ⊥) → 96 ≤ length t.rows → handed t (on_row tag rule t) ≡ record { answer = Err Full; accounts = accounts_of t }
   refused_full n h = let m = rows_made n in handed_full t (on_row tag rule t) (omega (arith, m, h))
 
-  pub kept_known : InTagOrder t.rows → length t.rows ≤ 96 → HasRow tag t.rows → handed t (on_row tag rule t) ≡ record { refusal = 0; accounts = accounts_of (on_row tag rule t) }
+  pub kept_known : InTagOrder t.rows → length t.rows ≤ 96 → HasRow tag t.rows → handed t (on_row tag rule t) ≡ record { answer = Ok tt; accounts = accounts_of (on_row tag rule t) }
   kept_known o l h = let m = rows_kept o h in handed_fit t (on_row tag rule t) (omega (arith, m, l))
 
-  pub kept_room : length t.rows < 96 → handed t (on_row tag rule t) ≡ record { refusal = 0; accounts = accounts_of (on_row tag rule t) }
+  pub kept_room : length t.rows < 96 → handed t (on_row tag rule t) ≡ record { answer = Ok tt; accounts = accounts_of (on_row tag rule t) }
   unfolding on_row
   kept_room l = let m = put_least tag_of x t.rows in handed_fit t (on_row tag rule t) (omega (arith, m, l))
 
@@ -158,5 +161,5 @@ usage_count (u ∷ us) t =
     let k : length (add_all us n).rows ≤ length n.rows + length us = usage_count us n in
     omega (arith, h, k)
 
-pub few_usages : (us : List Usage) → length us ≤ 96 → handed no_tags (add_all us no_tags) ≡ record { refusal = 0; accounts = accounts_of (add_all us no_tags) }
+pub few_usages : (us : List Usage) → length us ≤ 96 → handed no_tags (add_all us no_tags) ≡ record { answer = Ok tt; accounts = accounts_of (add_all us no_tags) }
 few_usages us h = let k = usage_count us no_tags in handed_fit no_tags (add_all us no_tags) (omega (arith, k, h))

@@ -1,16 +1,17 @@
 -- Document 01, space.rs's `from_usage` and `from_entries`: the accounts of a region table.
-use Rattle.std.specs.Prelude.{ℕ, Bool, cond, not, ◌||◌, List, [], ◌∷◌, ◌≡◌, eqb, length, get_or, drop}
-use Rattle.std.proofs.Math.Option.{Option, none, some}
+use Rattle.std.specs.Prelude.{ℕ, Bool, cond, not, ◌||◌, List, [], ◌∷◌, ◌≡◌, eqb, length, get_or, drop, Option, None, Some, Err}
+use Rattle.numbers.specs.declared.refusal.Refusal.TheVariants.{Lists}
 use Rattle.tagspace.specs.Row.{add_usage}
 use Rattle.accounting.specs.Table.{Table, Valid, accounts_of, on_row, handed}
 use Rattle.accounting.specs.declared.Posted.{Posted}
+pub use Rattle.accounting.specs.declared.entries.Usage.{Usage}
 use Rattle.numbers.specs.Sums.{top}
 use Rattle.tagspace.specs.Extent.{extent_len}
 
 -- A number, or another one where there is none.
 abbrev pub or_else : ℕ → Option ℕ → ℕ
-or_else other none = other
-or_else other (some n) = n
+or_else other None = other
+or_else other (Some n) = n
 
 -- "`add` counts 2^64 - 1 where it has none"
 abbrev pub added_len : ℕ → ℕ → ℕ
@@ -21,11 +22,6 @@ abbrev pub removed_len : ℕ → ℕ → ℕ
 removed_len size block = or_else 0 (extent_len size block)
 
 -- One region's usage.
-pub record Usage : Type 0 where
-  pub tag : ℕ
-  pub logical : ℕ
-  pub physical : ℕ
-
 abbrev pub usage : ℕ → ℕ → ℕ → Usage
 usage tag logical physical = record { tag = tag; logical = logical; physical = physical }
 
@@ -61,5 +57,5 @@ differ xs ys zs = not (eqb (length xs) (length ys)) || not (eqb (length xs) (len
 
 -- What is handed back of usages: 1 where the lists differ in length, 19 for a 97th tag; a refused call hands back no tags.
 pub record Counts (bad : Bool) (us : List Usage) (r : Posted) : Type 0 where
-  pub answer : r ≡ cond bad (record { refusal = 1; accounts = accounts_of no_tags }) (handed no_tags (add_all us no_tags))
+  pub answer : r ≡ cond bad (record { answer = Err Lists; accounts = accounts_of no_tags }) (handed no_tags (add_all us no_tags))
   pub valid : Valid r.accounts

@@ -1,6 +1,8 @@
 -- Document 01, "Accounts for at most 96 tags travel as one record, in tag order": what a record means, and what a call on a tag
 -- makes of it.
-use Rattle.std.specs.Prelude.{ℕ, ◌+◌, ◌-◌, ◌≤◌, Bool, cond, ◌&&◌, List, ◌++◌, ◌≡◌, ltb, eqb, length, take, replicate}
+use Rattle.std.specs.Prelude.{ℕ, ◌+◌, ◌-◌, ◌≤◌, Bool, cond, List, ◌++◌, ◌≡◌, ltb, length, take, replicate, Result, Ok, Err}
+use Rattle.numbers.specs.declared.refusal.Refusal.{Refusal}
+use Rattle.numbers.specs.declared.refusal.Refusal.TheVariants.{Full}
 use Rattle.tagspace.specs.Row.{blank, reserve, unreserve, fits}
 use Rattle.accounting.specs.declared.Accounting.{Accounting}
 use Rattle.accounting.specs.declared.Asked.{Asked}
@@ -72,17 +74,21 @@ same r = r
 -- `refused_full`, `kept_known` and `kept_room` (proofs/Words) say when that is.
 unfoldable pub handed : Table → Table → Posted
 handed t next =
-    cond (ltb 96 (length next.rows)) (record { refusal = 19; accounts = accounts_of t })
-    (record { refusal = 0; accounts = accounts_of next })
+    cond (ltb 96 (length next.rows)) (record { answer = Err Full; accounts = accounts_of t })
+    (record { answer = Ok tt; accounts = accounts_of next })
 
 -- What a call on a tag promises: of a record that a call handed back, the answer, and that it hands back such a record.
 pub record Posts (a : Accounting) (next : Table → Table) (r : Posted) : Type 0 where
   pub answer : Valid a → r ≡ handed (table_of a) (next (table_of a))
   pub valid : Valid a → Valid r.accounts
 
--- A refused `fits` answers no.
+-- An answer in place of that a call is done.
+abbrev pub answering : Bool → Result (Unit {0}) Refusal → Result Bool Refusal
+answering ok (Ok done) = Ok ok
+answering ok (Err e) = Err e
+
 abbrev pub asked : Posted → Bool → Asked
-asked p ok = record { refusal = p.refusal; fits = eqb p.refusal 0 && ok; accounts = p.accounts }
+asked p ok = record { answer = answering ok p.answer; accounts = p.accounts }
 
 -- What `fits` promises.
 pub record Asks (a : Accounting) (tag extra : ℕ) (r : Asked) : Type 0 where

@@ -2,25 +2,28 @@
 #![tactic(auto)]
 
 mod entries;
-mod posting;
 mod table;
 
-ghost use Rattle.std.specs.Prelude.{◌≡◌, get_or};
+ghost use Rattle.std.specs.Prelude.{◌≡◌, get_or, Err};
 ghost use Rattle.accounting.specs.Entries.{Counts, no_tags, usages, ready_usages, differ, added_len, removed_len};
 ghost use Rattle.tagspace.specs.Row.{blank, add_usage, remove_usage, set_cap};
 ghost use Rattle.accounting.specs.Table.{Valid, Posts, Asks, accounts_of, table_of, on_row, reserving, unreserving, row_of};
 
-use entries::{count_entries, count_usage, extent_len_or};
-use numbers::{add_stop, sub_stop};
-use posting::Posting;
-use tagspace::{Cap, TagSpace};
+pub use entries::Usage;
+use entries::{count_all, extent_len_or};
+use numbers::Refusal;
+use tagspace::TagSpace;
 
-pub(crate) const TOP: u64 = 0xffff_ffff_ffff_ffff;
+const TOP: u64 = 0xffff_ffff_ffff_ffff;
+
+// The number of the state Ready in a region table.
+const READY: u8 = 1;
 
 // The most tags.
 pub(crate) const MOST: usize = 96;
 
-// The accounts of all tags. Rows stand in tag order; those at and past the count are blank.
+// The accounts of all tags. Rows stand in tag order; those at and past the count are blank. There is no
+// heap, so the rows are an array with a count.
 #[derive(Clone, Copy)]
 pub struct Accounting {
     pub rows: [TagSpace; 96],
@@ -29,28 +32,28 @@ pub struct Accounting {
     pub reserved: u64,
 }
 
-// Document 01's refusal, 0 where there is none, and the accounts. A refused posting hands them back as
-// they were, a refused list those of no tag.
+// The accounts after a call, and whether it was accepted. A refused posting hands them back as they
+// were, a refused list those of no tag, so the answer stands beside them. This and the next are two structs
+// and not one over the answer's type: each is named wherever it is promised.
 #[derive(Clone, Copy)]
 pub struct Posted {
-    pub refusal: u64,
+    pub answer: Result<(), Refusal>,
     pub accounts: Accounting,
 }
 
-// The same of a question, and whether the bytes fit.
+// The same of a question, with whether the bytes fit.
 #[derive(Clone, Copy)]
 pub struct Asked {
-    pub refusal: u64,
-    pub fits: bool,
+    pub answer: Result<bool, Refusal>,
     pub accounts: Accounting,
 }
 
 // A refused list.
-pub(crate) fn refused(refusal: u64) -> Posted
-    ensures { result ≡ record { refusal = refusal; accounts = accounts_of no_tags } }
+pub(crate) fn refused(refusal: Refusal) -> Posted
+    ensures { result ≡ record { answer = Err refusal; accounts = accounts_of no_tags } }
 {
     Posted {
-        refusal,
+        answer: Err(refusal),
         accounts: Accounting::empty(),
     }
 }
@@ -74,12 +77,22 @@ impl Accounting {
         ensures { Counts (differ tags.now states.now data_sizes.now) (ready_usages block states.now tags.now data_sizes.now) result }
     {
         if tags.len() != states.len() {
-            return refused(1);
+            return refused(Refusal::Lists);
         }
         if tags.len() != data_sizes.len() {
-            return refused(1);
+            return refused(Refusal::Lists);
         }
-        count_entries(states, tags, data_sizes, block)
+        count_all(tags.len(), |i| {
+            if states[i] != READY {
+                return None;
+            }
+            let logical = data_sizes[i];
+            Some(Usage {
+                tag: tags[i],
+                logical,
+                physical: extent_len_or(logical, block, TOP),
+            })
+        })
     }
 
     // The accounts of regions. Their tags, data bytes and occupied bytes stand in three lists.
@@ -87,26 +100,40 @@ impl Accounting {
         ensures { Counts (differ tags.now logical.now physical.now) (usages tags.now logical.now physical.now) result }
     {
         if tags.len() != logical.len() {
-            return refused(1);
+            return refused(Refusal::Lists);
         }
         if tags.len() != physical.len() {
-            return refused(1);
+            return refused(Refusal::Lists);
         }
-        count_usage(tags, logical, physical)
+        count_all(tags.len(), |i| {
+            Some(Usage {
+                tag: tags[i],
+                logical: logical[i],
+                physical: physical[i],
+            })
+        })
     }
 
     // Counts a region of a tag.
-    pub fn add_usage(self, tag: u32, logical: u64, physical: u64) -> Posted
+    pub fn add_usage(mut self, tag: u32, logical: u64, physical: u64) -> Posted
         ensures { Posts self (on_row tag (add_usage logical physical)) result }
     {
-        self.post(tag, Posting::AddUsage(logical, physical))
+        let answer = self.post(tag, |row| row.add_usage(logical, physical));
+        Posted {
+            answer,
+            accounts: self,
+        }
     }
 
     // Stops counting a region of a tag.
-    pub fn remove_usage(self, tag: u32, logical: u64, physical: u64) -> Posted
+    pub fn remove_usage(mut self, tag: u32, logical: u64, physical: u64) -> Posted
         ensures { Posts self (on_row tag (remove_usage logical physical)) result }
     {
-        self.post(tag, Posting::RemoveUsage(logical, physical))
+        let answer = self.post(tag, |row| row.remove_usage(logical, physical));
+        Posted {
+            answer,
+            accounts: self,
+        }
     }
 
     // Counts a table entry.
@@ -124,66 +151,47 @@ impl Accounting {
     }
 
     // Whether extra bytes more are within a tag's cap.
-    pub fn fits(self, tag: u32, extra: u64) -> Asked
+    pub fn fits(mut self, tag: u32, extra: u64) -> Asked
         ensures { Asks self tag extra result }
     {
-        let spot = self.find(tag);
-        let at = spot.at;
-        if spot.known {
-            let row = self.rows[at];
-            return Asked {
-                refusal: 0,
-                fits: row.fits(extra),
-                accounts: self,
-            };
-        }
-        // a new row has no cap
-        let p = self.insert(at, TagSpace::blank(tag));
-        let accounts = p.accounts;
+        let answer = self.ask(tag, extra);
         Asked {
-            refusal: p.refusal,
-            fits: p.refusal == 0,
-            accounts,
+            answer,
+            accounts: self,
         }
     }
 
     // Reserves bytes for a tag.
-    pub fn reserve(self, tag: u32, bytes: u64) -> Posted
+    pub fn reserve(mut self, tag: u32, bytes: u64) -> Posted
         ensures { Posts self (reserving tag bytes) result }
     {
-        let p = self.post(tag, Posting::Reserve(bytes));
-        if p.refusal != 0 {
-            return p;
-        }
-        let mut accounts = p.accounts;
-        accounts.reserved = add_stop(self.reserved, bytes);
+        let answer = self.post_reserve(tag, bytes);
         Posted {
-            refusal: 0,
-            accounts,
+            answer,
+            accounts: self,
         }
     }
 
     // Takes back bytes that were reserved for a tag.
-    pub fn unreserve(self, tag: u32, bytes: u64) -> Posted
+    pub fn unreserve(mut self, tag: u32, bytes: u64) -> Posted
         ensures { Posts self (unreserving tag bytes) result }
     {
-        let p = self.post(tag, Posting::Unreserve(bytes));
-        if p.refusal != 0 {
-            return p;
-        }
-        let mut accounts = p.accounts;
-        accounts.reserved = sub_stop(self.reserved, bytes);
+        let answer = self.post_unreserve(tag, bytes);
         Posted {
-            refusal: 0,
-            accounts,
+            answer,
+            accounts: self,
         }
     }
 
     // Sets a tag's cap, or clears it.
-    pub fn set_cap(self, tag: u32, cap: Cap) -> Posted
+    pub fn set_cap(mut self, tag: u32, cap: Option<u64>) -> Posted
         ensures { Posts self (on_row tag (set_cap cap)) result }
     {
-        self.post(tag, Posting::SetCap(cap))
+        let answer = self.post(tag, |row| row.set_cap(cap));
+        Posted {
+            answer,
+            accounts: self,
+        }
     }
 
     // Bytes reserved and not yet provisioned, all tags.
@@ -197,12 +205,10 @@ impl Accounting {
     pub fn row(self, tag: u32) -> TagSpace
         ensures { Valid self → result ≡ row_of tag (table_of self).rows }
     {
-        let spot = self.find(tag);
-        if spot.known {
-            let at = spot.at;
-            return self.rows[at];
+        match self.find(tag) {
+            Ok(at) => self.rows[at],
+            Err(_) => TagSpace::blank(tag),
         }
-        TagSpace::blank(tag)
     }
 
     // The row at a place in tag order, a blank one behind the last.

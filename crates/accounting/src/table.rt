@@ -1,99 +1,88 @@
-// The rows in tag order: where a tag's row stands, and a posting to it.
+// The rows in tag order: where a tag's row stands, and the calls on it. They change the accounts where they
+// stand: to hand 96 rows to a call and back costs more than the call.
 ghost use Rattle.std.specs.Prelude.{◌≡◌, ◌≤◌};
-ghost use Rattle.accounting.specs.Inner.{Sought, inserted, posted};
-ghost use Rattle.accounting.specs.Table.{Posts, on_row};
+ghost use Rattle.accounting.specs.Inner.{KeepsTag, Sought, leaving, inserted};
+ghost use Rattle.accounting.specs.Table.{Posts, Asks, on_row, reserving, unreserving};
+ghost use Rattle.tagspace.specs.declared.TagSpace.{TagSpace};
 
-use crate::posting::{Posting, posted};
-use crate::{Accounting, MOST, Posted};
-use numbers::advance;
+use crate::{Accounting, MOST};
+use numbers::Refusal;
 use tagspace::TagSpace;
 
-// Whether a tag has a row, and where: the place of its row, or else the place where it belongs.
-#[derive(Clone, Copy)]
-pub(crate) struct Spot {
-    pub(crate) known: bool,
-    pub(crate) at: usize,
-}
-
 impl Accounting {
-    // Where a tag's row stands, by halving. Of a record with too many rows none is found.
-    pub(crate) fn find(self, tag: u32) -> Spot
-        ensures { Sought self tag result }
+    // The place of a tag's row, or else the place where it belongs. Of a record with too many rows none
+    // is found.
+    pub(crate) fn find(&self, tag: u32) -> Result<usize, usize>
+        ensures { Sought self.now tag result }
     {
-        let count = self.count;
-        if count > MOST {
-            return Spot {
-                known: false,
-                at: 0,
-            };
+        if self.count > MOST {
+            return Err(0);
         }
-        let mut lo = 0;
-        let mut n = count;
-        while n > 0 {
-            let step = n - n / 2;
-            lo = advance(lo, step, self.rows[lo + step - 1].tag <= tag);
-            n /= 2;
-        }
-        if lo > 0 {
-            if self.rows[lo - 1].tag == tag {
-                return Spot {
-                    known: true,
-                    at: lo - 1,
-                };
-            }
-        }
-        Spot {
-            known: false,
-            at: lo,
-        }
+        self.rows[..self.count].binary_search_by_key(&tag, |row| row.tag)
     }
 
-    // The accounts with one row more, which stands behind so many others.
-    pub(crate) fn insert(mut self, at: usize, row: TagSpace) -> Posted
-        requires { at ≤ self.count }
-        ensures { result ≡ inserted at row self }
+    // Puts in one row more, which stands behind so many others.
+    pub(crate) fn insert(&mut self, at: usize, row: TagSpace) -> Result<(), Refusal>
+        requires { at ≤ self.old.count }
+        ensures { leaving result self.new ≡ inserted at row self.old }
     {
         let count = self.count;
         if count > MOST {
-            return Posted {
-                refusal: 1,
-                accounts: self,
-            };
+            return Err(Refusal::Lists);
         }
         if count == MOST {
-            return Posted {
-                refusal: 19,
-                accounts: self,
-            };
+            return Err(Refusal::Full);
         }
-        let mut i = count;
-        while i > at {
-            let before = self.rows[i - 1];
-            self.rows[i] = before;
-            i -= 1;
-        }
+        self.rows.copy_within(at..count, at + 1);
         self.rows[at] = row;
         self.count = count + 1;
-        Posted {
-            refusal: 0,
-            accounts: self,
+        Ok(())
+    }
+
+    // Carries out a rule on a tag's row, which is made where the tag has none.
+    pub(crate) fn post<F: FnOnce(TagSpace) -> TagSpace>(
+        &mut self,
+        tag: u32,
+        rule: F,
+    ) -> Result<(), Refusal>
+        requires { F.IsAlwaysCallable rule }
+        ensures { (f : TagSpace → TagSpace) → KeepsTag f → ((r s : TagSpace) → F.post rule r s → s ≡ f r) → Posts self.old (on_row tag f) (leaving result self.new) }
+    {
+        match self.find(tag) {
+            Ok(at) => {
+                self.rows[at] = rule(self.rows[at]);
+                Ok(())
+            }
+            Err(at) => self.insert(at, rule(TagSpace::blank(tag))),
         }
     }
 
-    // The accounts with a posting to a tag, which makes its row where it has none.
-    pub(crate) fn post(mut self, tag: u32, posting: Posting) -> Posted
-        ensures { Posts self (on_row tag (posted posting)) result }
+    // Whether extra bytes more are within a tag's cap. A tag with no row gets one.
+    pub(crate) fn ask(&mut self, tag: u32, extra: u64) -> Result<bool, Refusal>
+        ensures { Asks self.old tag extra (record { answer = result; accounts = self.new }) }
     {
-        let spot = self.find(tag);
-        let at = spot.at;
-        if spot.known {
-            let row = self.rows[at];
-            self.rows[at] = posted(row, posting);
-            return Posted {
-                refusal: 0,
-                accounts: self,
-            };
+        match self.find(tag) {
+            Ok(at) => Ok(self.rows[at].fits(extra)),
+            // a new row has no cap
+            Err(at) => self.insert(at, TagSpace::blank(tag)).map(|_| true),
         }
-        self.insert(at, posted(TagSpace::blank(tag), posting))
+    }
+
+    // Reserves bytes for a tag.
+    pub(crate) fn post_reserve(&mut self, tag: u32, bytes: u64) -> Result<(), Refusal>
+        ensures { Posts self.old (reserving tag bytes) (leaving result self.new) }
+    {
+        self.post(tag, |row| row.reserve(bytes))?;
+        self.reserved = self.reserved.saturating_add(bytes);
+        Ok(())
+    }
+
+    // Takes back bytes that were reserved for a tag.
+    pub(crate) fn post_unreserve(&mut self, tag: u32, bytes: u64) -> Result<(), Refusal>
+        ensures { Posts self.old (unreserving tag bytes) (leaving result self.new) }
+    {
+        self.post(tag, |row| row.unreserve(bytes))?;
+        self.reserved = self.reserved.saturating_sub(bytes);
+        Ok(())
     }
 }

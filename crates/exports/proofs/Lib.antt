@@ -1,1 +1,2 @@
 pub mod Chaining
+mod Told

@@ -1,31 +1,25 @@
 -- Calls one after another, each with the promise of the single call: what the loops for the benchmark do.
-use Rattle.std.specs.Prelude.{ℕ, ◌+◌, Bool, true, false, cond, List, [], ◌∷◌, ◌≡◌, ltb, length, get_or, drop, set}
-use Rattle.accounting.specs.Entries.{Usage}
+use Rattle.std.specs.Prelude.{ℕ, ◌+◌, Bool, true, false, cond, List, [], ◌∷◌, ◌≡◌, ltb, length, get_or, drop, set, Result, Ok, Err, is_ok}
+use Rattle.accounting.specs.declared.entries.Usage.{Usage}
 use Rattle.accounting.specs.Table.{Posts, Asks, on_row}
 use Rattle.accounting.specs.declared.Accounting.{Accounting}
 use Rattle.accounting.specs.declared.Asked.{Asked}
 use Rattle.accounting.specs.declared.Posted.{Posted}
-use Rattle.exports.specs.Accounts.{FlatPosts}
-use Rattle.exports.specs.Flat.{map_or}
+use Rattle.exports.specs.Accounts.{flat_posted, fits_in}
+use Rattle.exports.specs.Flat.{Flattened}
 use Rattle.exports.specs.declared.FlatAnswer.{FlatAnswer}
 use Rattle.exports.specs.declared.accounts.FlatPosted.{FlatPosted}
 use Rattle.flat.specs.Chain.{Chain}
 use Rattle.flat.specs.declared.FlatAccounting.{FlatAccounting}
 use Rattle.numbers.specs.Range.{Range}
+use Rattle.numbers.specs.Refusals.{value_or, told, refusal_in}
+use Rattle.numbers.specs.declared.refusal.Refusal.{Refusal}
 use Rattle.regionmap.specs.Map.{Published, Extended, Answered}
-use Rattle.regionmap.specs.declared.Located.{Located}
-use Rattle.regionmap.specs.declared.Mapped.{Mapped}
-use Rattle.regionmap.specs.declared.Mapped.TheVariants.{Map, Refused}
 use Rattle.regionmap.specs.declared.RegionMap.{RegionMap}
 use Rattle.tagspace.specs.Row.{add_usage, remove_usage}
 use Rattle.tagspace.specs.declared.TagSpace.{TagSpace}
-use Rattle.regionmap.specs.declared.Located.TheVariants as located
 
 -- ---- the region map
-
-abbrev pub is_map : Mapped → Bool
-is_map (Map m) = true
-is_map (Refused n) = false
 
 -- A map with its lists, and how many calls were accepted.
 pub record Extending : Type 0 where
@@ -39,10 +33,10 @@ extending m ss fs k = record { map = m; starts = ss; files = fs; accepted = k }
 
 -- One call of `extend`; where it is refused the map stays.
 pub record Extend (x : Range) (s t : Extending) : Type 0 where
-  pub answer : Mapped
+  pub answer : Result RegionMap Refusal
   pub promise : Extended s.map x.offset x.len s.starts t.starts s.files t.files answer
-  pub map : t.map ≡ map_or s.map answer
-  pub count : t.accepted ≡ s.accepted + cond (is_map answer) 1 0
+  pub map : t.map ≡ value_or s.map (told answer)
+  pub count : t.accepted ≡ s.accepted + cond (is_ok answer) 1 0
 
 pub record Publishing : Type 0 where
   pub map : RegionMap
@@ -53,10 +47,10 @@ publishing m k = record { map = m; accepted = k }
 
 -- One call of `publish_len`.
 pub record Publish (n : ℕ) (s t : Publishing) : Type 0 where
-  pub answer : Mapped
+  pub answer : Result RegionMap Refusal
   pub promise : Published s.map n answer
-  pub map : t.map ≡ map_or s.map answer
-  pub count : t.accepted ≡ s.accepted + cond (is_map answer) 1 0
+  pub map : t.map ≡ value_or s.map (told answer)
+  pub count : t.accepted ≡ s.accepted + cond (is_ok answer) 1 0
 
 -- The bytes found, how many positions were asked for, and how many were located.
 pub record Locating : Type 0 where
@@ -67,22 +61,18 @@ pub record Locating : Type 0 where
 abbrev pub locating : List ℕ → ℕ → ℕ → Locating
 locating bs i k = record { bytes = bs; asked = i; located = k }
 
-abbrev pub is_at : Located → Bool
-is_at (located.At b) = true
-is_at (located.Refused n) = false
-
 -- A byte goes to its place in the list, a refusal leaves it.
-abbrev pub noted : Located → ℕ → List ℕ → List ℕ
-noted (located.At b) i bs = set bs i b
-noted (located.Refused n) i bs = bs
+abbrev pub noted : Result ℕ Refusal → ℕ → List ℕ → List ℕ
+noted (Ok b) i bs = set bs i b
+noted (Err e) i bs = bs
 
 -- One call of `locate` on a map with its lists, of length n.
 pub record Locate (m : RegionMap) (ss fs : List ℕ) (n p : ℕ) (s t : Locating) : Type 0 where
-  pub place : Located
+  pub place : Result ℕ Refusal
   pub promise : Answered m p n ss fs place
   pub bytes : t.bytes ≡ noted place s.asked s.bytes
   pub next : t.asked ≡ s.asked + 1
-  pub count : t.located ≡ s.located + cond (is_at place) 1 0
+  pub count : t.located ≡ s.located + cond (is_ok place) 1 0
 
 -- Nothing is asked where there are fewer places for bytes than positions.
 pub record LocatedEach (m : RegionMap) (ss fs ps : List ℕ) (n : ℕ) (bs₀ bs : List ℕ) (r : ℕ) : Type 0 where
@@ -96,8 +86,9 @@ abbrev pub rule_of : Bool → Usage → TagSpace → TagSpace
 rule_of true u = remove_usage u.logical u.physical
 rule_of false u = add_usage u.logical u.physical
 
-abbrev pub posted : ℕ → Accounting → Posted
-posted n a = record { refusal = n; accounts = a }
+-- No posting yet.
+abbrev pub unposted : Accounting → Posted
+unposted a = record { answer = Ok tt; accounts = a }
 
 -- One posting, on the accounts that the last one handed back.
 abbrev pub Post : Bool → Usage → Posted → Posted → Type 0
@@ -107,7 +98,7 @@ Post remove u s t = Posts s.accounts (on_row u.tag (rule_of remove u)) t
 -- there is none.
 pub record PostsEach (bad remove : Bool) (us : List Usage) (flat : FlatAccounting) (a : Accounting) (r : FlatPosted) : Type 0 where
   pub refused : bad ≡ true → r ≡ record { refusal = 1; accounts = flat }
-  pub each : bad ≡ false → FlatPosts (Chain (Post remove) us (posted 0 a)) r
+  pub each : bad ≡ false → Flattened flat_posted (Chain (Post remove) us (unposted a)) r
 
 -- A tag, and what is asked for.
 pub record Question : Type 0 where
@@ -123,15 +114,19 @@ pub record Asking : Type 0 where
   pub asked : Asked
   pub fit : ℕ
 
-abbrev pub asking : ℕ → Bool → Accounting → ℕ → Asking
-asking n f a k = record { asked = record { refusal = n; fits = f; accounts = a }; fit = k }
+abbrev pub asking : Asked → ℕ → Asking
+asking r k = record { asked = r; fit = k }
+
+-- No question yet.
+abbrev pub unasked : Accounting → Asked
+unasked a = record { answer = Ok false; accounts = a }
 
 -- One question.
 pub record Ask (q : Question) (s t : Asking) : Type 0 where
   pub promise : Asks s.asked.accounts q.tag q.extra t.asked
-  pub count : t.fit ≡ s.fit + cond t.asked.fits 1 0
+  pub count : t.fit ≡ s.fit + cond (fits_in t.asked) 1 0
 
 -- 1 and 0 where the lists differ in length, else the last refusal and how many fit.
 pub record AsksEach (bad : Bool) (qs : List Question) (a : Accounting) (r : FlatAnswer) : Type 0 where
   pub refused : bad ≡ true → r ≡ record { refusal = 1; value = 0 }
-  pub each : bad ≡ false → (t : Asking) × Chain Ask qs (asking 0 false a 0) t × (r ≡ record { refusal = t.asked.refusal; value = t.fit })
+  pub each : bad ≡ false → (t : Asking) × Chain Ask qs (asking (unasked a) 0) t × (r ≡ record { refusal = refusal_in t.asked.answer; value = t.fit })

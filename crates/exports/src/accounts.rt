@@ -5,15 +5,17 @@ ghost use Rattle.tagspace.specs.Extent.{extent_len};
 ghost use Rattle.tagspace.specs.Row.{blank, add_usage, remove_usage, reserve, unreserve, set_cap, fits};
 ghost use Rattle.accounting.specs.Table.{Valid, Posts, Asks, accounts_of, table_of, on_row, reserving, unreserving, row_of};
 ghost use Rattle.exports.specs.Each.{PostsEach, questions, AsksEach};
-ghost use Rattle.exports.specs.Flat.{flat_of};
+ghost use Rattle.exports.specs.Flat.{flat_of, Flattened};
 ghost use Rattle.flat.specs.Flat.{cap_from, row_from, accounts_from, flat_row, flat_accounts};
-ghost use Rattle.exports.specs.Accounts.{flat_posted, FlatPosts, FlatAsks};
+ghost use Rattle.exports.specs.Accounts.{flat_posted, flat_asked};
 
 use crate::{FlatAnswer, FlatOption};
-use accounting::{Accounting, Posted};
-use flat::{FlatAccounting, FlatRow, accounts_from, cap_from, flat_accounts, flat_row, row_from};
-use tagspace::{ExtentLen, TagSpace};
+use accounting::{Accounting, Asked, Posted};
+use flat::{FlatAccounting, FlatRow, cap_from};
+use numbers::{Refusal, number_in};
+use tagspace::TagSpace;
 
+// An answer as a number, since C reads numbers, and the accounts.
 #[repr(C)]
 #[derive(Clone, Copy)]
 pub struct FlatPosted {
@@ -21,6 +23,7 @@ pub struct FlatPosted {
     pub accounts: FlatAccounting,
 }
 
+// The same of a question.
 #[repr(C)]
 #[derive(Clone, Copy)]
 pub struct FlatAsked {
@@ -29,13 +32,26 @@ pub struct FlatAsked {
     pub accounts: FlatAccounting,
 }
 
-fn flat_posted(posted: Posted) -> FlatPosted
-    ensures { result ≡ flat_posted posted }
-{
-    let accounts = posted.accounts;
-    FlatPosted {
-        refusal: posted.refusal,
-        accounts: flat_accounts(accounts),
+impl From<Posted> for FlatPosted {
+    ghost from_gives = { λ posted r. r ≡ flat_posted posted };
+
+    fn from(posted: Posted) -> FlatPosted {
+        FlatPosted {
+            refusal: number_in(posted.answer),
+            accounts: posted.accounts.into(),
+        }
+    }
+}
+
+impl From<Asked> for FlatAsked {
+    ghost from_gives = { λ asked r. r ≡ flat_asked asked };
+
+    fn from(asked: Asked) -> FlatAsked {
+        FlatAsked {
+            refusal: number_in(asked.answer),
+            fits: asked.answer.unwrap_or(false),
+            accounts: asked.accounts.into(),
+        }
     }
 }
 
@@ -43,18 +59,14 @@ fn flat_posted(posted: Posted) -> FlatPosted
 pub extern "C" fn fundravai_extent_len(size: u64, block: u64) -> FlatOption
     ensures { result ≡ flat_of (extent_len size block) }
 {
-    let len = tagspace::extent_len(size, block);
-    match len {
-        ExtentLen::Bytes(n) => FlatOption { some: 1, value: n },
-        ExtentLen::Nothing => FlatOption { some: 0, value: 0 },
-    }
+    tagspace::extent_len(size, block).into()
 }
 
 #[unsafe(no_mangle)]
 pub extern "C" fn fundravai_accounts_empty() -> FlatAccounting
     ensures { result ≡ flat_accounts (accounts_of no_tags) }
 {
-    flat_accounts(Accounting::empty())
+    Accounting::empty().into()
 }
 
 #[unsafe(no_mangle)]
@@ -64,9 +76,9 @@ pub extern "C" fn fundravai_accounts_from_entries(
     sizes: &[u64],
     block: u64,
 ) -> FlatPosted
-    ensures { FlatPosts (Counts (differ tags.now states.now sizes.now) (ready_usages block states.now tags.now sizes.now)) result }
+    ensures { Flattened flat_posted (Counts (differ tags.now states.now sizes.now) (ready_usages block states.now tags.now sizes.now)) result }
 {
-    flat_posted(Accounting::from_entries(states, tags, sizes, block))
+    Accounting::from_entries(states, tags, sizes, block).into()
 }
 
 #[unsafe(no_mangle)]
@@ -75,9 +87,9 @@ pub extern "C" fn fundravai_accounts_from_usage(
     logical: &[u64],
     physical: &[u64],
 ) -> FlatPosted
-    ensures { FlatPosts (Counts (differ tags.now logical.now physical.now) (usages tags.now logical.now physical.now)) result }
+    ensures { Flattened flat_posted (Counts (differ tags.now logical.now physical.now) (usages tags.now logical.now physical.now)) result }
 {
-    flat_posted(Accounting::from_usage(tags, logical, physical))
+    Accounting::from_usage(tags, logical, physical).into()
 }
 
 #[unsafe(no_mangle)]
@@ -87,10 +99,11 @@ pub extern "C" fn fundravai_accounts_add_usage(
     logical: u64,
     physical: u64,
 ) -> FlatPosted
-    ensures { FlatPosts (Posts (accounts_from flat) (on_row tag (add_usage logical physical))) result }
+    ensures { Flattened flat_posted (Posts (accounts_from flat) (on_row tag (add_usage logical physical))) result }
 {
-    let accounts = accounts_from(flat);
-    flat_posted(accounts.add_usage(tag, logical, physical))
+    Accounting::from(flat)
+        .add_usage(tag, logical, physical)
+        .into()
 }
 
 #[unsafe(no_mangle)]
@@ -100,10 +113,11 @@ pub extern "C" fn fundravai_accounts_remove_usage(
     logical: u64,
     physical: u64,
 ) -> FlatPosted
-    ensures { FlatPosts (Posts (accounts_from flat) (on_row tag (remove_usage logical physical))) result }
+    ensures { Flattened flat_posted (Posts (accounts_from flat) (on_row tag (remove_usage logical physical))) result }
 {
-    let accounts = accounts_from(flat);
-    flat_posted(accounts.remove_usage(tag, logical, physical))
+    Accounting::from(flat)
+        .remove_usage(tag, logical, physical)
+        .into()
 }
 
 #[unsafe(no_mangle)]
@@ -113,10 +127,9 @@ pub extern "C" fn fundravai_accounts_add(
     size: u64,
     block: u64,
 ) -> FlatPosted
-    ensures { FlatPosts (Posts (accounts_from flat) (on_row tag (add_usage size (added_len size block)))) result }
+    ensures { Flattened flat_posted (Posts (accounts_from flat) (on_row tag (add_usage size (added_len size block)))) result }
 {
-    let accounts = accounts_from(flat);
-    flat_posted(accounts.add(tag, size, block))
+    Accounting::from(flat).add(tag, size, block).into()
 }
 
 #[unsafe(no_mangle)]
@@ -126,24 +139,16 @@ pub extern "C" fn fundravai_accounts_remove(
     size: u64,
     block: u64,
 ) -> FlatPosted
-    ensures { FlatPosts (Posts (accounts_from flat) (on_row tag (remove_usage size (removed_len size block)))) result }
+    ensures { Flattened flat_posted (Posts (accounts_from flat) (on_row tag (remove_usage size (removed_len size block)))) result }
 {
-    let accounts = accounts_from(flat);
-    flat_posted(accounts.remove(tag, size, block))
+    Accounting::from(flat).remove(tag, size, block).into()
 }
 
 #[unsafe(no_mangle)]
 pub extern "C" fn fundravai_accounts_fits(flat: FlatAccounting, tag: u32, extra: u64) -> FlatAsked
-    ensures { FlatAsks (Asks (accounts_from flat) tag extra) result }
+    ensures { Flattened flat_asked (Asks (accounts_from flat) tag extra) result }
 {
-    let accounts = accounts_from(flat);
-    let asked = accounts.fits(tag, extra);
-    let after = asked.accounts;
-    FlatAsked {
-        refusal: asked.refusal,
-        fits: asked.fits,
-        accounts: flat_accounts(after),
-    }
+    Accounting::from(flat).fits(tag, extra).into()
 }
 
 #[unsafe(no_mangle)]
@@ -152,10 +157,9 @@ pub extern "C" fn fundravai_accounts_reserve(
     tag: u32,
     bytes: u64,
 ) -> FlatPosted
-    ensures { FlatPosts (Posts (accounts_from flat) (reserving tag bytes)) result }
+    ensures { Flattened flat_posted (Posts (accounts_from flat) (reserving tag bytes)) result }
 {
-    let accounts = accounts_from(flat);
-    flat_posted(accounts.reserve(tag, bytes))
+    Accounting::from(flat).reserve(tag, bytes).into()
 }
 
 #[unsafe(no_mangle)]
@@ -164,10 +168,9 @@ pub extern "C" fn fundravai_accounts_unreserve(
     tag: u32,
     bytes: u64,
 ) -> FlatPosted
-    ensures { FlatPosts (Posts (accounts_from flat) (unreserving tag bytes)) result }
+    ensures { Flattened flat_posted (Posts (accounts_from flat) (unreserving tag bytes)) result }
 {
-    let accounts = accounts_from(flat);
-    flat_posted(accounts.unreserve(tag, bytes))
+    Accounting::from(flat).unreserve(tag, bytes).into()
 }
 
 #[unsafe(no_mangle)]
@@ -177,35 +180,32 @@ pub extern "C" fn fundravai_accounts_set_cap(
     capped: bool,
     limit: u64,
 ) -> FlatPosted
-    ensures { FlatPosts (Posts (accounts_from flat) (on_row tag (set_cap (cap_from capped limit)))) result }
+    ensures { Flattened flat_posted (Posts (accounts_from flat) (on_row tag (set_cap (cap_from capped limit)))) result }
 {
-    let accounts = accounts_from(flat);
-    let cap = cap_from(capped, limit);
-    flat_posted(accounts.set_cap(tag, cap))
+    Accounting::from(flat)
+        .set_cap(tag, cap_from(capped, limit))
+        .into()
 }
 
 #[unsafe(no_mangle)]
 pub extern "C" fn fundravai_accounts_reserved(flat: FlatAccounting) -> u64
     ensures { result ≡ (table_of (accounts_from flat)).total }
 {
-    let accounts = accounts_from(flat);
-    accounts.reserved()
+    Accounting::from(flat).reserved()
 }
 
 #[unsafe(no_mangle)]
 pub extern "C" fn fundravai_accounts_row(flat: FlatAccounting, tag: u32) -> FlatRow
     ensures { Valid (accounts_from flat) → result ≡ flat_row (row_of tag (table_of (accounts_from flat)).rows) }
 {
-    let accounts = accounts_from(flat);
-    flat_row(accounts.row(tag))
+    Accounting::from(flat).row(tag).into()
 }
 
 #[unsafe(no_mangle)]
 pub extern "C" fn fundravai_accounts_row_at(flat: FlatAccounting, i: usize) -> FlatRow
     ensures { Valid (accounts_from flat) → result ≡ flat_row (get_or (table_of (accounts_from flat)).rows i (blank 0)) }
 {
-    let accounts = accounts_from(flat);
-    flat_row(accounts.row_at(i))
+    Accounting::from(flat).row_at(i).into()
 }
 
 // One tag's row by itself.
@@ -214,62 +214,57 @@ pub extern "C" fn fundravai_accounts_row_at(flat: FlatAccounting, i: usize) -> F
 pub extern "C" fn fundravai_row_blank(tag: u32) -> FlatRow
     ensures { result ≡ flat_row (blank tag) }
 {
-    flat_row(TagSpace::blank(tag))
+    TagSpace::blank(tag).into()
 }
 
 #[unsafe(no_mangle)]
 pub extern "C" fn fundravai_row_add_usage(flat: FlatRow, logical: u64, physical: u64) -> FlatRow
     ensures { result ≡ flat_row (add_usage logical physical (row_from flat)) }
 {
-    let row = row_from(flat);
-    flat_row(row.add_usage(logical, physical))
+    TagSpace::from(flat).add_usage(logical, physical).into()
 }
 
 #[unsafe(no_mangle)]
 pub extern "C" fn fundravai_row_remove_usage(flat: FlatRow, logical: u64, physical: u64) -> FlatRow
     ensures { result ≡ flat_row (remove_usage logical physical (row_from flat)) }
 {
-    let row = row_from(flat);
-    flat_row(row.remove_usage(logical, physical))
+    TagSpace::from(flat).remove_usage(logical, physical).into()
 }
 
 #[unsafe(no_mangle)]
 pub extern "C" fn fundravai_row_reserve(flat: FlatRow, bytes: u64) -> FlatRow
     ensures { result ≡ flat_row (reserve bytes (row_from flat)) }
 {
-    let row = row_from(flat);
-    flat_row(row.reserve(bytes))
+    TagSpace::from(flat).reserve(bytes).into()
 }
 
 #[unsafe(no_mangle)]
 pub extern "C" fn fundravai_row_unreserve(flat: FlatRow, bytes: u64) -> FlatRow
     ensures { result ≡ flat_row (unreserve bytes (row_from flat)) }
 {
-    let row = row_from(flat);
-    flat_row(row.unreserve(bytes))
+    TagSpace::from(flat).unreserve(bytes).into()
 }
 
 #[unsafe(no_mangle)]
 pub extern "C" fn fundravai_row_set_cap(flat: FlatRow, capped: bool, limit: u64) -> FlatRow
     ensures { result ≡ flat_row (set_cap (cap_from capped limit) (row_from flat)) }
 {
-    let row = row_from(flat);
-    let cap = cap_from(capped, limit);
-    flat_row(row.set_cap(cap))
+    TagSpace::from(flat).set_cap(cap_from(capped, limit)).into()
 }
 
 #[unsafe(no_mangle)]
 pub extern "C" fn fundravai_row_fits(flat: FlatRow, extra: u64) -> bool
     ensures { result ≡ fits extra (row_from flat) }
 {
-    let row = row_from(flat);
-    row.fits(extra)
+    TagSpace::from(flat).fits(extra)
 }
 
 // The next two are for the benchmark, where putting the accounts into flat numbers and back would cost
 // more than a posting.
 
-// Adds or removes each usage in turn; hands back what the last posting does.
+// Adds or removes each usage in turn, which a flag says, since C has no closure; hands back what the last
+// posting does.
+#[tactic(auto, using(accounting::proofs::Counting::usages_next, accounting::proofs::Counting::usages_end, accounting::proofs::Counting::differ_none, accounting::proofs::Counting::differ_second, accounting::proofs::Counting::differ_third))]
 #[unsafe(no_mangle)]
 pub extern "C" fn fundravai_accounts_post_each(
     flat: FlatAccounting,
@@ -280,40 +275,31 @@ pub extern "C" fn fundravai_accounts_post_each(
 ) -> FlatPosted
     ensures { PostsEach (differ tags.now logical.now physical.now) remove (usages tags.now logical.now physical.now) flat (accounts_from flat) result }
 {
-    if tags.len() != logical.len() {
+    if tags.len() != logical.len() || tags.len() != physical.len() {
         return FlatPosted {
-            refusal: 1,
+            refusal: Refusal::Lists.number(),
             accounts: flat,
         };
     }
-    if tags.len() != physical.len() {
-        return FlatPosted {
-            refusal: 1,
-            accounts: flat,
-        };
-    }
-    let mut accounts = accounts_from(flat);
-    let mut refusal = 0;
-    let mut i = 0;
-    while i < tags.len() {
-        let tag = tags[i];
-        let data_bytes = logical[i];
-        let occupied = physical[i];
-        i += 1;
+    let mut posted = Posted {
+        answer: Ok(()),
+        accounts: flat.into(),
+    };
+    for i in 0..tags.len() {
+        // no `posted = if`: it copies the accounts once more
         if remove {
-            let posted = accounts.remove_usage(tag, data_bytes, occupied);
-            refusal = posted.refusal;
-            accounts = posted.accounts;
+            posted = posted
+                .accounts
+                .remove_usage(tags[i], logical[i], physical[i]);
         } else {
-            let posted = accounts.add_usage(tag, data_bytes, occupied);
-            refusal = posted.refusal;
-            accounts = posted.accounts;
+            posted = posted.accounts.add_usage(tags[i], logical[i], physical[i]);
         }
     }
-    flat_posted(Posted { refusal, accounts })
+    posted.into()
 }
 
 // Asks for each tag in turn; answers the last refusal, and how many fit.
+#[tactic(auto, using(accounting::proofs::Counting::differ_second))]
 #[unsafe(no_mangle)]
 pub extern "C" fn fundravai_accounts_fits_each(
     flat: FlatAccounting,
@@ -323,24 +309,19 @@ pub extern "C" fn fundravai_accounts_fits_each(
     ensures { AsksEach (differ tags.now extra.now extra.now) (questions tags.now extra.now) (accounts_from flat) result }
 {
     if tags.len() != extra.len() {
-        return FlatAnswer {
-            refusal: 1,
-            value: 0,
-        };
+        return Err::<u64, _>(Refusal::Lists).into();
     }
-    let mut accounts = accounts_from(flat);
-    let mut refusal = 0;
+    let mut asked = Asked {
+        answer: Ok(false),
+        accounts: flat.into(),
+    };
     let mut fit = 0;
-    let mut i = 0;
-    while i < tags.len() {
-        let asked = accounts.fits(tags[i], extra[i]);
-        refusal = asked.refusal;
-        accounts = asked.accounts;
-        fit += asked.fits as u64;
-        i += 1;
+    for (&tag, &bytes) in tags.iter().zip(extra) {
+        asked = asked.accounts.fits(tag, bytes);
+        fit += asked.answer.unwrap_or(false) as u64;
     }
     FlatAnswer {
-        refusal,
+        refusal: number_in(asked.answer),
         value: fit,
     }
 }

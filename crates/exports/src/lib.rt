@@ -11,16 +11,16 @@ ghost use Rattle.std.specs.Prelude.{◌≡◌};
 ghost use Rattle.align.specs.Align.{align_up};
 ghost use Rattle.sort.specs.Sort.{Sorted};
 ghost use Rattle.numbers.specs.Range.{range};
+ghost use Rattle.numbers.specs.Refusals.{answer};
 ghost use Rattle.footprint.specs.Footprint.{max_extents, answer_of, Filled};
-ghost use Rattle.runs.specs.Runs.{Listed, count_of};
-ghost use Rattle.exports.specs.Flat.{flat_of, flat_answer, limits_of, entry_of, header_of, Told, FlatTold, FlatAnswers, FlatChecked};
+ghost use Rattle.runs.specs.Runs.{Listed};
+ghost use Rattle.exports.specs.Flat.{flat_of, flat_answer, flat_told, limits_of, entry_of, header_of, Told, FlatTold, Flattened, FlatChecked};
 
-use align::Aligned;
 use flat::kind_of;
-use footprint::{Entry, Header, Limits, Verdict};
-use runs::RunCount;
+use footprint::{Entry, Extent, Header, Limits};
+use numbers::{Refusal, number_in};
 
-// A number or none: some is 1 or 0, and value is 0 where there is none.
+// A number or none: some is 1 or 0, and value is 0 where there is none. Numbers, since C reads them.
 #[repr(C)]
 #[derive(Clone, Copy)]
 pub struct FlatOption {
@@ -28,7 +28,7 @@ pub struct FlatOption {
     pub value: u64,
 }
 
-// Document 01's refusal and 0, or 0 and a value.
+// Document 01's refusal and 0, or 0 and a value; numbers, since C reads them.
 #[repr(C)]
 #[derive(Clone, Copy)]
 pub struct FlatAnswer {
@@ -36,22 +36,50 @@ pub struct FlatAnswer {
     pub value: u64,
 }
 
-#[unsafe(no_mangle)]
-pub extern "C" fn fundravai_align_up(value: u64, align: u64) -> FlatOption
-    ensures { result ≡ flat_of (align_up value align) }
-{
-    let aligned = align::align_up(value, align);
-    match aligned {
-        Aligned::At(at) => FlatOption { some: 1, value: at },
-        Aligned::Nothing => FlatOption { some: 0, value: 0 },
+impl From<Option<u64>> for FlatOption {
+    ghost from_gives = { λ found r. r ≡ flat_of found };
+
+    fn from(found: Option<u64>) -> FlatOption {
+        FlatOption {
+            some: found.is_some() as u64,
+            value: found.unwrap_or(0),
+        }
+    }
+}
+
+impl From<Result<u64, Refusal>> for FlatAnswer {
+    ghost from_gives = { λ answer r. r ≡ flat_told answer };
+
+    fn from(answer: Result<u64, Refusal>) -> FlatAnswer {
+        FlatAnswer {
+            refusal: number_in(answer),
+            value: answer.unwrap_or(0),
+        }
+    }
+}
+
+// Not generic with the one above: a usize is no `Into<u64>`.
+impl From<Result<usize, Refusal>> for FlatAnswer {
+    ghost from_gives = { λ answer r. r ≡ flat_told answer };
+
+    fn from(answer: Result<usize, Refusal>) -> FlatAnswer {
+        answer.map(|n| n as u64).into()
     }
 }
 
 #[unsafe(no_mangle)]
-pub extern "C" fn fundravai_sort_pairs(s: &mut [u64]) -> u64
-    ensures { Sorted s.old s.new result }
+pub extern "C" fn fundravai_align_up(value: u64, align: u64) -> FlatOption
+    ensures { result ≡ flat_of (align_up value align) }
 {
-    sort::sort_pairs(s)
+    align::align_up(value, align).into()
+}
+
+#[tactic(auto, using(crate::proofs::Told::told_answer))]
+#[unsafe(no_mangle)]
+pub extern "C" fn fundravai_sort_pairs(s: &mut [u64]) -> u64
+    ensures { Sorted s.old s.new (answer result tt) }
+{
+    number_in(sort::sort_pairs(s))
 }
 
 #[unsafe(no_mangle)]
@@ -59,6 +87,17 @@ pub extern "C" fn fundravai_max_extents(log2: u8) -> usize
     ensures { result ≡ max_extents log2 }
 {
     footprint::max_extents(log2)
+}
+
+// The fields of limits, an entry and a header stand by themselves, since the C interface has them so.
+fn limits_of(log2: u8, table: u64, file: u64) -> Limits
+    ensures { result ≡ limits_of log2 table file }
+{
+    Limits {
+        log2_block: log2,
+        table_end: table,
+        file_len: file,
+    }
 }
 
 fn entry_of(
@@ -75,9 +114,8 @@ fn entry_of(
 ) -> Entry
     ensures { result ≡ entry_of kind flags count a b start end size capacity seq }
 {
-    let entry_kind = kind_of(kind);
     Entry {
-        kind: entry_kind,
+        kind: kind_of(kind),
         flags,
         extent_count: count,
         header_a: a,
@@ -93,10 +131,9 @@ fn entry_of(
 fn header_of(id: u64, kind: u8, flags: u8, ready: bool, log2: u8, count: u16) -> Header
     ensures { result ≡ header_of id kind flags ready log2 count }
 {
-    let header_kind = kind_of(kind);
     Header {
         region_id: id,
-        kind: header_kind,
+        kind: kind_of(kind),
         flags,
         ready,
         log2_block: log2,
@@ -104,19 +141,16 @@ fn header_of(id: u64, kind: u8, flags: u8, ready: bool, log2: u8, count: u16) ->
     }
 }
 
-// Writes a verdict's extra into the lent numbers; answers document 01's refusal, 0 where there is none.
-fn tell(verdict: Verdict, offset: &mut u64, len: &mut u64) -> u64
+// Writes a verdict's extra into the lent numbers, since C takes no `Result`; answers document 01's refusal, 0
+// where there is none.
+fn tell(verdict: Result<Option<Extent>, Refusal>, offset: &mut u64, len: &mut u64) -> u64
     ensures { Told (answer_of verdict) result (range offset.old len.old) (range offset.new len.new) }
 {
-    match verdict {
-        Verdict::Usable => 0,
-        Verdict::Ahead(o, l) => {
-            *offset = o;
-            *len = l;
-            0
-        }
-        Verdict::Refused(number) => number,
+    if let Ok(Some(extra)) = verdict {
+        *offset = extra.offset;
+        *len = extra.len;
     }
+    number_in(verdict)
 }
 
 #[unsafe(no_mangle)]
@@ -148,11 +182,7 @@ pub extern "C" fn fundravai_fill_footprint(
 ) -> u64
     ensures { FlatTold (Filled (limits_of log2 table file) id (entry_of kind flags count a b start end size capacity seq) (header_of hid hkind hflags ready hlog2 hcount) extents.now scratch.old scratch.new) result (range offset.old len.old) (range offset.new len.new) }
 {
-    let limits = Limits {
-        log2_block: log2,
-        table_end: table,
-        file_len: file,
-    };
+    let limits = limits_of(log2, table, file);
     let entry = entry_of(kind, flags, count, a, b, start, end, size, capacity, seq);
     let header = header_of(hid, hkind, hflags, ready, hlog2, hcount);
     let verdict = footprint::fill_footprint(limits, id, entry, header, extents, scratch);
@@ -190,31 +220,18 @@ pub extern "C" fn fundravai_check_region(
 ) -> usize
     ensures { FlatChecked (limits_of log2 table file) id (entry_of kind flags count a b start end size capacity seq) (header_of hid hkind hflags ready hlog2 hcount) extents.now scratch.old result refusal.new (range offset.old len.old) (range offset.new len.new) }
 {
-    let limits = Limits {
-        log2_block: log2,
-        table_end: table,
-        file_len: file,
-    };
+    let limits = limits_of(log2, table, file);
     let entry = entry_of(kind, flags, count, a, b, start, end, size, capacity, seq);
     let header = header_of(hid, hkind, hflags, ready, hlog2, hcount);
-    let part = footprint::check_region(
-        limits, id, entry, header, extents, scratch, refusal, offset, len,
-    );
-    part.len()
-}
-
-pub(crate) fn flat_count(count: RunCount) -> FlatAnswer
-    ensures { result ≡ flat_answer (count_of count) }
-{
-    match count {
-        RunCount::Runs(n) => FlatAnswer {
-            refusal: 0,
-            value: n as u64,
-        },
-        RunCount::Refused(n) => FlatAnswer {
-            refusal: n,
-            value: 0,
-        },
+    match footprint::check_region(limits, id, entry, header, extents, scratch) {
+        Ok((part, extra)) => {
+            *refusal = tell(Ok(extra), offset, len);
+            part.len()
+        }
+        Err(reason) => {
+            *refusal = reason.number();
+            0
+        }
     }
 }
 
@@ -225,8 +242,7 @@ pub extern "C" fn fundravai_runs(
     files: &mut [u64],
     lens: &mut [u64],
 ) -> FlatAnswer
-    ensures { FlatAnswers (Listed extents.now starts.old starts.new files.old files.new lens.old lens.new) result }
+    ensures { Flattened flat_answer (Listed extents.now starts.old starts.new files.old files.new lens.old lens.new) result }
 {
-    let count = runs::runs(extents, starts, files, lens);
-    flat_count(count)
+    runs::runs(extents, starts, files, lens).into()
 }

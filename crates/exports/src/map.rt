@@ -1,17 +1,33 @@
 // Flat functions of the region map. A map is five numbers: the file offset of its first run, the
 // data's length, the capacity, the runs after the first, and the room for them.
-ghost use Rattle.regionmap.specs.Map.{Made, Roomed, Published, Extended, Written};
+ghost use Rattle.std.specs.Prelude.{◌≡◌};
+ghost use Rattle.regionmap.specs.Map.{Made, Roomed, Published, Extended, Answered, Written};
 ghost use Rattle.numbers.specs.Pairs.{pairs};
 ghost use Rattle.flat.specs.Chain.{Chain};
 ghost use Rattle.exports.specs.Each.{Extend, extending, Publish, publishing, LocatedEach};
-ghost use Rattle.exports.specs.Flat.{map_from, HandedOut, FlatAnswers, FlatMapped, FlatPlace};
+ghost use Rattle.exports.specs.Flat.{flat_answer, flat_told, map_from, HandedOut, Flattened, FlatHanded};
 
-use crate::{FlatAnswer, flat_count};
-use regionmap::{Located, Mapped, RegionMap};
+use crate::FlatAnswer;
+use numbers::{Refusal, number_in};
+use regionmap::RegionMap;
 
-// Writes a map into the lent numbers; answers document 01's refusal, 0 where there is none.
+// A map's numbers stand by themselves in each signature, since the C interface has them so.
+fn map_from(first: u64, published: u64, capacity: u64, count: usize, room: usize) -> RegionMap
+    ensures { result ≡ map_from first published capacity count room }
+{
+    RegionMap {
+        first,
+        len: published,
+        capacity,
+        count,
+        room,
+    }
+}
+
+// Writes a map into the lent numbers, since C takes no `Result`; a free map's are others. Answers document 01's
+// refusal, 0 where there is none.
 fn hand_out(
-    mapped: Mapped,
+    mapped: Result<RegionMap, Refusal>,
     first: &mut u64,
     published: &mut u64,
     capacity: &mut u64,
@@ -20,17 +36,14 @@ fn hand_out(
 ) -> u64
     ensures { HandedOut mapped result (map_from first.old published.old capacity.old count.old room.old) (map_from first.new published.new capacity.new count.new room.new) }
 {
-    match mapped {
-        Mapped::Map(map) => {
-            *first = map.first;
-            *published = map.len;
-            *capacity = map.capacity;
-            *count = map.count;
-            *room = map.room;
-            0
-        }
-        Mapped::Refused(n) => n,
+    if let Ok(map) = mapped {
+        *first = map.first;
+        *published = map.len;
+        *capacity = map.capacity;
+        *count = map.count;
+        *room = map.room;
     }
+    number_in(mapped)
 }
 
 #[unsafe(no_mangle)]
@@ -45,7 +58,7 @@ pub extern "C" fn fundravai_map_from_extents(
     count: &mut usize,
     room: &mut usize,
 ) -> u64
-    ensures { FlatMapped (Made extents.now len starts.old starts.new files.old files.new) result (map_from first.old published.old capacity.old count.old room.old) (map_from first.new published.new capacity.new count.new room.new) }
+    ensures { FlatHanded (Made extents.now len starts.old starts.new files.old files.new) result (map_from first.old published.old capacity.old count.old room.old) (map_from first.new published.new capacity.new count.new room.new) }
 {
     let mapped = RegionMap::from_extents(extents, len, starts, files);
     hand_out(mapped, first, published, capacity, count, room)
@@ -62,15 +75,9 @@ pub extern "C" fn fundravai_map_with_room(
     count: &mut usize,
     room: &mut usize,
 ) -> u64
-    ensures { FlatMapped (Roomed (map_from first.old published.old capacity.old count.old room.old) asked starts.now files.now) result (map_from first.old published.old capacity.old count.old room.old) (map_from first.new published.new capacity.new count.new room.new) }
+    ensures { FlatHanded (Roomed (map_from first.old published.old capacity.old count.old room.old) asked starts.now files.now) result (map_from first.old published.old capacity.old count.old room.old) (map_from first.new published.new capacity.new count.new room.new) }
 {
-    let map = RegionMap {
-        first: *first,
-        len: *published,
-        capacity: *capacity,
-        count: *count,
-        room: *room,
-    };
+    let map = map_from(*first, *published, *capacity, *count, *room);
     let mapped = map.with_room(asked, starts, files);
     hand_out(mapped, first, published, capacity, count, room)
 }
@@ -84,15 +91,9 @@ pub extern "C" fn fundravai_map_publish_len(
     count: &mut usize,
     room: &mut usize,
 ) -> u64
-    ensures { FlatMapped (Published (map_from first.old published.old capacity.old count.old room.old) len) result (map_from first.old published.old capacity.old count.old room.old) (map_from first.new published.new capacity.new count.new room.new) }
+    ensures { FlatHanded (Published (map_from first.old published.old capacity.old count.old room.old) len) result (map_from first.old published.old capacity.old count.old room.old) (map_from first.new published.new capacity.new count.new room.new) }
 {
-    let map = RegionMap {
-        first: *first,
-        len: *published,
-        capacity: *capacity,
-        count: *count,
-        room: *room,
-    };
+    let map = map_from(*first, *published, *capacity, *count, *room);
     let mapped = map.publish_len(len);
     hand_out(mapped, first, published, capacity, count, room)
 }
@@ -109,15 +110,9 @@ pub extern "C" fn fundravai_map_extend(
     count: &mut usize,
     room: &mut usize,
 ) -> u64
-    ensures { FlatMapped (Extended (map_from first.old published.old capacity.old count.old room.old) file n starts.old starts.new files.old files.new) result (map_from first.old published.old capacity.old count.old room.old) (map_from first.new published.new capacity.new count.new room.new) }
+    ensures { FlatHanded (Extended (map_from first.old published.old capacity.old count.old room.old) file n starts.old starts.new files.old files.new) result (map_from first.old published.old capacity.old count.old room.old) (map_from first.new published.new capacity.new count.new room.new) }
 {
-    let map = RegionMap {
-        first: *first,
-        len: *published,
-        capacity: *capacity,
-        count: *count,
-        room: *room,
-    };
+    let map = map_from(*first, *published, *capacity, *count, *room);
     let mapped = map.extend(file, n, starts, files);
     hand_out(mapped, first, published, capacity, count, room)
 }
@@ -134,26 +129,10 @@ pub extern "C" fn fundravai_map_locate(
     pos: u64,
     n: u64,
 ) -> FlatAnswer
-    ensures { FlatPlace (map_from first published capacity count room) pos n starts.now files.now result }
+    ensures { Flattened flat_told (Answered (map_from first published capacity count room) pos n starts.now files.now) result }
 {
-    let map = RegionMap {
-        first,
-        len: published,
-        capacity,
-        count,
-        room,
-    };
-    let place = map.locate(starts, files, pos, n);
-    match place {
-        Located::At(byte) => FlatAnswer {
-            refusal: 0,
-            value: byte,
-        },
-        Located::Refused(number) => FlatAnswer {
-            refusal: number,
-            value: 0,
-        },
-    }
+    let map = map_from(first, published, capacity, count, room);
+    map.locate(starts, files, pos, n).into()
 }
 
 #[unsafe(no_mangle)]
@@ -167,17 +146,10 @@ pub extern "C" fn fundravai_map_runs(
     files: &[u64],
     out: &mut [u64],
 ) -> FlatAnswer
-    ensures { FlatAnswers (Written (map_from first published capacity count room) starts.now files.now out.old out.new) result }
+    ensures { Flattened flat_answer (Written (map_from first published capacity count room) starts.now files.now out.old out.new) result }
 {
-    let map = RegionMap {
-        first,
-        len: published,
-        capacity,
-        count,
-        room,
-    };
-    let runs = map.runs(starts, files, out);
-    flat_count(runs)
+    let map = map_from(first, published, capacity, count, room);
+    map.runs(starts, files, out).into()
 }
 
 // The next three are for the benchmark, where a call from Rust would cost more than the work.
@@ -198,33 +170,22 @@ pub extern "C" fn fundravai_map_locate_each(
 ) -> u64
     ensures { LocatedEach (map_from first published capacity count room) starts.now files.now positions.now n bytes.old bytes.new result }
 {
-    let map = RegionMap {
-        first,
-        len: published,
-        capacity,
-        count,
-        room,
-    };
+    let map = map_from(first, published, capacity, count, room);
     if bytes.len() < positions.len() {
         return 0;
     }
     let mut located = 0;
-    let mut i = 0;
-    while i < positions.len() {
-        let place = map.locate(starts, files, positions[i], n);
-        i += 1;
-        match place {
-            Located::At(byte) => {
-                bytes[i - 1] = byte;
-                located += 1;
-            }
-            Located::Refused(_) => {}
+    for (i, &pos) in positions.iter().enumerate() {
+        if let Ok(byte) = map.locate(starts, files, pos, n) {
+            bytes[i] = byte;
+            located += 1;
         }
     }
     located
 }
 
 // Extends by each pair of extents, and answers how many were accepted.
+#[tactic(auto, using(crate::proofs::Chaining::chunk_next, crate::proofs::Chaining::chunks_end, numbers::proofs::Chunks::chunk_pairs))]
 #[unsafe(no_mangle)]
 pub extern "C" fn fundravai_map_extend_each(
     extents: &[u64],
@@ -238,27 +199,16 @@ pub extern "C" fn fundravai_map_extend_each(
 ) -> u64
     ensures { Chain Extend (pairs extents.now) (extending (map_from first.old published.old capacity.old count.old room.old) starts.old files.old 0) (extending (map_from first.new published.new capacity.new count.new room.new) starts.new files.new result) }
 {
-    let mut map = RegionMap {
-        first: *first,
-        len: *published,
-        capacity: *capacity,
-        count: *count,
-        room: *room,
-    };
+    let mut map = map_from(*first, *published, *capacity, *count, *room);
     let mut accepted = 0;
-    let mut i = 0;
-    while i < extents.len() / 2 {
-        let mapped = map.extend(extents[2 * i], extents[2 * i + 1], starts, files);
-        i += 1;
-        match mapped {
-            Mapped::Map(next) => {
-                map = next;
-                accepted += 1;
-            }
-            Mapped::Refused(_) => {}
-        }
+    let (pairs, _) = extents.as_chunks::<2>();
+    for &[file, n] in pairs {
+        // no `if let`: its branches take twice the time
+        let extended = map.extend(file, n, starts, files);
+        accepted += extended.is_ok() as u64;
+        map = extended.unwrap_or(map);
     }
-    hand_out(Mapped::Map(map), first, published, capacity, count, room);
+    hand_out(Ok(map), first, published, capacity, count, room);
     accepted
 }
 
@@ -274,26 +224,14 @@ pub extern "C" fn fundravai_map_publish_each(
 ) -> u64
     ensures { Chain Publish lens.now (publishing (map_from first.old published.old capacity.old count.old room.old) 0) (publishing (map_from first.new published.new capacity.new count.new room.new) result) }
 {
-    let mut map = RegionMap {
-        first: *first,
-        len: *published,
-        capacity: *capacity,
-        count: *count,
-        room: *room,
-    };
+    let mut map = map_from(*first, *published, *capacity, *count, *room);
     let mut accepted = 0;
-    let mut i = 0;
-    while i < lens.len() {
-        let mapped = map.publish_len(lens[i]);
-        i += 1;
-        match mapped {
-            Mapped::Map(next) => {
-                map = next;
-                accepted += 1;
-            }
-            Mapped::Refused(_) => {}
+    for &len in lens {
+        if let Ok(next) = map.publish_len(len) {
+            map = next;
+            accepted += 1;
         }
     }
-    hand_out(Mapped::Map(map), first, published, capacity, count, room);
+    hand_out(Ok(map), first, published, capacity, count, room);
     accepted
 }

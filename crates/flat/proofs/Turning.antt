@@ -1,55 +1,38 @@
 -- Rows turned into other rows one by one, and back.
-use Prim.Native.Nat.{ℕ, suc, ◌+◌, ◌≤◌, ◌<◌}
-use mathlib.Core.List.{List, [], ◌∷◌, ◌++◌, map}
-use mathlib.Core.Path.{◌≡◌, refl, ap, sym, ◌∙◌}
+use Rattle.std.specs.Prelude.{None, Option, Some}
+use Prim.Native.Nat.{ℕ}
+use denote.Param.Members.{Mut}
+use mathlib.Core.List.{List, [], ◌∷◌, map}
+use mathlib.Core.Path.{◌≡◌, refl, sym, ◌∙◌}
 use native.Mathlib.Omega.{arith}
-use lib.ListN.{length, get_or, take, set, length-set, length-map, length-replicate, get_or-map}
-use lib.Seq.{take_all, take-suc, take-suc-set}
-use Rattle.accounting.specs.Entries.{no_tags}
-use Rattle.accounting.specs.Table.{accounts_of}
+use lib.ListN.{length, get_or-map}
+use Rattle.std.proofs.lemmas.List.{ext_get_or, length-map}
+use Rattle.std.specs.Array.{IsMapOf}
+use Rattle.std.specs.Result.{result_unwrap_or}
+use borrow.Author.Tests.{ne_eqb}
+use Rattle.numbers.proofs.Cases.{by_eq}
+use Rattle.std.specs.Fn.{Called}
 use Rattle.accounting.specs.declared.Accounting.{Accounting}
 use Rattle.flat.specs.Flat.{kind_of, cap_from, is_capped, limit_of, row_from, flat_row, accounts_from, flat_accounts}
-use Rattle.footprint.specs.Footprint.{kind_code}
+use Rattle.footprint.specs.Footprint.{kind_code, kind_in}
 use Rattle.footprint.specs.declared.RegionKind.{RegionKind}
 use Rattle.footprint.specs.declared.RegionKind.TheVariants.{Append, Page, Slot}
-use Rattle.tagspace.specs.Row.{blank}
-use Rattle.tagspace.specs.declared.Cap.{Cap}
-use Rattle.tagspace.specs.declared.Cap.TheVariants.{Limit, Nothing}
 use Rattle.tagspace.specs.declared.TagSpace.{TagSpace}
 
--- the first i elements of ys are those of xs turned by f
-pub record Turned {A B : Type 0} (f : A → B) (xs : List A) (i : ℕ) (ys : List B) : Type 0 where
-  pub long : length ys ≡ length xs
-  pub front : take i ys ≡ take i (map f xs)
-
-module _ {A B : Type 0} (f : A → B) (xs : List A) where
-  pub turn_begins : (ys : List B) → length ys ≡ length xs → Turned f xs 0 ys
-  turn_begins ys e = record { long = e; front = refl }
-
-  pub turn_on : (ys : List B) (i : ℕ) (d : A) (y : B) → y ≡ f (get_or xs i d) → i < length xs → Turned f xs i ys → Turned f xs (i + 1) (set ys i y)
-  turn_on ys i d y e h g =
-      let n : i + 1 ≡ suc i = omega arith in
-      record {
-        long = length-set ys i y ∙ g.long;
-        front =
-            rw n (take-suc-set ys i y (omega (arith, g.long))
-            ∙ ap (λ (t : List B). t ++ (y ∷ [])) g.front
-            ∙ ap (λ (z : B). take i (map f xs) ++ (z ∷ [])) (e ∙ sym (get_or-map f xs i d))
-            ∙ sym (take-suc (map f xs) i (f d) (rw (length-map xs f) h)));
-      }
-
-  pub turn_ends : (ys : List B) (i : ℕ) → length xs ≤ i → Turned f xs i ys → ys ≡ map f xs
-  turn_ends ys i h g =
-      sym (take_all i ys (omega (arith, g.long))) ∙ g.front ∙ take_all i (map f xs) (rw (length-map xs f) h)
-
-pub empty_long : length (accounts_of no_tags).rows ≡ 96
-unfolding accounts_of
-empty_long = length-replicate {A = TagSpace} 96 (blank 0)
+module _ {F A B : Type 0} {g : Mut F (A × Unit {0}) B} {f : F} (h : A → B) where
+  -- what `map` of an array makes of it, where each call of the closure gives h of its argument
+  pub mapped : (xs : List A) (ys : List B) {n : ℕ} → IsMapOf g f xs ys n → length xs ≡ n → ((p : F) (x : A) (y : B) (q : F) → Called g p (x, tt) y q → y ≡ h x) → ys ≡ map h xs
+  mapped [] [] m l calls = refl
+  mapped [] (y ∷ ys) m l calls = let e = m.long in absurd (omega arith)
+  mapped (x ∷ xs) ys m l calls =
+      let all = x ∷ xs in
+      let e : length ys ≡ length (map h all) = m.long ∙ sym l ∙ sym (length-map all h) in
+      ext_get_or (h x) ys (map h all) e (λ i b. let c = m.at i x (h x) (omega (arith, m.long)) in calls _ _ _ _ c.2 ∙ sym (get_or-map h all i x))
 
 -- nothing is lost in flat numbers
-cap_again : (c : Cap) → cap_from (is_capped c) (limit_of c) ≡ c
-cap_again (Limit n) = refl
-cap_again Nothing = refl
+cap_again : (c : Option ℕ) → cap_from (is_capped c) (limit_of c) ≡ c
+cap_again (Some n) = refl
+cap_again None = refl
 
 row_again : (r : TagSpace) → row_from (flat_row r) ≡ r
 row_again r = rw (cap_again r.cap)
@@ -61,6 +44,13 @@ rows_again (r ∷ rs) = rw (row_again r, rows_again rs)
 pub from_flat : (a : Accounting) → accounts_from (flat_accounts a) ≡ a
 unfolding accounts_from flat_accounts
 from_flat a = rw (rows_again a.rows)
+
+pub kind_told : (n : ℕ) → result_unwrap_or (kind_in n) Append ≡ kind_of n
+unfolding kind_in kind_of
+kind_told n =
+    by_eq n 1 (λ e. rw e refl)
+    (λ a. by_eq n 2 (λ e. rw e refl)
+    (λ b. by_eq n 3 (λ e. rw e refl) (λ d. simp (ne_eqb _ _ a, ne_eqb _ _ b, ne_eqb _ _ d))))
 
 pub kind_again : (k : RegionKind) → kind_of (kind_code k) ≡ k
 unfolding kind_of kind_code

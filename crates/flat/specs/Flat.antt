@@ -1,12 +1,10 @@
 -- Records as flat numbers, and records from them.
-use Rattle.std.specs.Prelude.{ℕ, Bool, true, false, cond, map, eqb}
+use Rattle.std.specs.Prelude.{ℕ, Bool, true, false, cond, map, eqb, None, Option, Some}
 use Rattle.accounting.specs.declared.Accounting.{Accounting}
 use Rattle.flat.specs.declared.FlatAccounting.{FlatAccounting}
 use Rattle.flat.specs.declared.FlatRow.{FlatRow}
 use Rattle.footprint.specs.declared.RegionKind.{RegionKind}
 use Rattle.footprint.specs.declared.RegionKind.TheVariants.{Append, Page, Slot}
-use Rattle.tagspace.specs.declared.Cap.{Cap}
-use Rattle.tagspace.specs.declared.Cap.TheVariants.{Limit, Nothing}
 use Rattle.tagspace.specs.declared.TagSpace.{TagSpace}
 
 -- The kind that has a number in the table; Append where none has. `kind_code` of footprint is that number.
@@ -14,9 +12,9 @@ unfoldable pub kind_of : ℕ → RegionKind
 kind_of n = cond (eqb n 3) Slot (cond (eqb n 2) Page Append)
 
 -- A limit, or none.
-abbrev pub cap_from : Bool → ℕ → Cap
-cap_from true n = Limit n
-cap_from false n = Nothing
+abbrev pub cap_from : Bool → ℕ → Option ℕ
+cap_from true n = Some n
+cap_from false n = None
 
 abbrev pub row_from : FlatRow → TagSpace
 row_from r =
@@ -32,13 +30,13 @@ unfoldable pub accounts_from : FlatAccounting → Accounting
 accounts_from a = record { rows = map row_from a.rows; count = a.count; reserved = a.reserved }
 
 -- Whether there is a cap, and the limit, else 0.
-abbrev pub is_capped : Cap → Bool
-is_capped (Limit n) = true
-is_capped Nothing = false
+abbrev pub is_capped : Option ℕ → Bool
+is_capped (Some n) = true
+is_capped None = false
 
-abbrev pub limit_of : Cap → ℕ
-limit_of (Limit n) = n
-limit_of Nothing = 0
+abbrev pub limit_of : Option ℕ → ℕ
+limit_of (Some n) = n
+limit_of None = 0
 
 abbrev pub flat_row : TagSpace → FlatRow
 flat_row r =

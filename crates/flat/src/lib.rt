@@ -1,13 +1,12 @@
-// Records as flat numbers, for the crates that export functions: an exported function takes no enum.
+// Records as flat numbers, for the crates that export functions: an exported function takes no enum and no `Option`.
 #![tactic(auto)]
 
 ghost use Rattle.std.specs.Prelude.{◌≡◌};
-ghost use Rattle.footprint.specs.Footprint.{kind_code};
 ghost use Rattle.flat.specs.Flat.{kind_of, cap_from, row_from, accounts_from, flat_row, flat_accounts};
 
 use accounting::Accounting;
 use footprint::RegionKind;
-use tagspace::{Cap, TagSpace};
+use tagspace::TagSpace;
 
 // A tag's row. Without a cap, capped is false and cap 0.
 #[repr(C)]
@@ -29,105 +28,69 @@ pub struct FlatAccounting {
     pub reserved: u64,
 }
 
-// The kind that has a number in the table.
+// The kind that has a number in the table; Append where none has. No `From`: neither type is of this crate.
 pub fn kind_of(code: u8) -> RegionKind
     ensures { result ≡ kind_of code }
 {
-    if code == 3 {
-        return RegionKind::Slot;
-    }
-    if code == 2 {
-        return RegionKind::Page;
-    }
-    RegionKind::Append
+    RegionKind::try_from(u64::from(code)).unwrap_or(RegionKind::Append)
 }
 
-// The number of a kind in the table.
-pub fn code_of(kind: RegionKind) -> u8
-    ensures { result ≡ kind_code kind }
-{
-    match kind {
-        RegionKind::Append => 1,
-        RegionKind::Page => 2,
-        RegionKind::Slot => 3,
-    }
-}
-
-pub fn cap_from(capped: bool, limit: u64) -> Cap
+// No `From`: neither type is of this crate.
+pub fn cap_from(capped: bool, limit: u64) -> Option<u64>
     ensures { result ≡ cap_from capped limit }
 {
-    if capped {
-        return Cap::Limit(limit);
-    }
-    Cap::Nothing
+    capped.then_some(limit)
 }
 
-pub fn row_from(row: FlatRow) -> TagSpace
-    ensures { result ≡ row_from row }
-{
-    let cap = cap_from(row.capped, row.cap);
-    TagSpace {
-        tag: row.tag,
-        logical: row.logical,
-        physical: row.physical,
-        reserved: row.reserved,
-        cap,
-    }
-}
+impl From<FlatRow> for TagSpace {
+    ghost from_gives = { λ row r. r ≡ row_from row };
 
-pub fn accounts_from(flat: FlatAccounting) -> Accounting
-    ensures { result ≡ accounts_from flat }
-{
-    let mut accounts = Accounting::empty();
-    let mut i = 0;
-    while i < 96 {
-        let row = flat.rows[i];
-        accounts.rows[i] = row_from(row);
-        i += 1;
-    }
-    accounts.count = flat.count;
-    accounts.reserved = flat.reserved;
-    accounts
-}
-
-pub fn flat_row(row: TagSpace) -> FlatRow
-    ensures { result ≡ flat_row row }
-{
-    let cap = row.cap;
-    match cap {
-        Cap::Limit(limit) => FlatRow {
+    fn from(row: FlatRow) -> TagSpace {
+        TagSpace {
             tag: row.tag,
-            capped: true,
             logical: row.logical,
             physical: row.physical,
             reserved: row.reserved,
-            cap: limit,
-        },
-        Cap::Nothing => FlatRow {
-            tag: row.tag,
-            capped: false,
-            logical: row.logical,
-            physical: row.physical,
-            reserved: row.reserved,
-            cap: 0,
-        },
+            cap: cap_from(row.capped, row.cap),
+        }
     }
 }
 
-pub fn flat_accounts(accounts: Accounting) -> FlatAccounting
-    ensures { result ≡ flat_accounts accounts }
-{
-    let none = flat_row(TagSpace::blank(0));
-    let mut flat = FlatAccounting {
-        rows: [none; 96],
-        count: accounts.count,
-        reserved: accounts.reserved,
-    };
-    let mut i = 0;
-    while i < 96 {
-        let row = accounts.rows[i];
-        flat.rows[i] = flat_row(row);
-        i += 1;
+impl From<FlatAccounting> for Accounting {
+    ghost from_gives = { λ flat r. r ≡ accounts_from flat };
+
+    fn from(flat: FlatAccounting) -> Accounting {
+        Accounting {
+            rows: flat.rows.map(TagSpace::from),
+            count: flat.count,
+            reserved: flat.reserved,
+        }
     }
-    flat
+}
+
+impl From<TagSpace> for FlatRow {
+    ghost from_gives = { λ row r. r ≡ flat_row row };
+
+    fn from(row: TagSpace) -> FlatRow {
+        FlatRow {
+            tag: row.tag,
+            capped: row.cap.is_some(),
+            logical: row.logical,
+            physical: row.physical,
+            reserved: row.reserved,
+            cap: row.cap.unwrap_or(0),
+        }
+    }
+}
+
+impl From<Accounting> for FlatAccounting {
+    ghost from_gives = { λ accounts r. r ≡ flat_accounts accounts };
+
+    fn from(accounts: Accounting) -> FlatAccounting {
+        FlatAccounting {
+            rows: accounts.rows.map(FlatRow::from),
+            count: accounts.count,
+            reserved: accounts.reserved,
+        }
+    }
 }

@@ -1,5 +1,7 @@
 -- A plan as flat numbers, and a plan from them.
-use Rattle.std.specs.Prelude.{List, map}
+use Rattle.numbers.specs.Refusals.{refusal_number}
+use Rattle.plan_record.specs.Plan.{Reply}
+use Rattle.std.specs.Prelude.{List, map, Ok, Err, Some, None}
 use Rattle.flat.specs.Flat.{kind_of, accounts_from, flat_accounts}
 use Rattle.flat_plan.specs.declared.FlatOutcome.{FlatOutcome}
 use Rattle.flat_plan.specs.declared.FlatPlan.{FlatPlan}
@@ -9,16 +11,13 @@ use Rattle.footprint.specs.Footprint.{kind_code}
 use Rattle.plan_record.specs.declared.Outcome.{Outcome}
 use Rattle.plan_record.specs.declared.Plan.{Plan}
 use Rattle.plan_record.specs.declared.Region.{Region}
-use Rattle.plan_record.specs.declared.Reply.{Reply}
-use Rattle.plan_record.specs.declared.Reply.TheVariants.{At, Done, Refused}
 
 abbrev pub region_from : FlatRegion → Region
 region_from r =
     record {
       number = r.number;
       tag = r.tag;
-      name = r.name;
-      name_len = r.name_len;
+      name = record { bytes = r.name; len = r.name_len };
       kind = kind_of r.kind;
       flags = r.flags;
       log2_block = r.log2_block;
@@ -50,8 +49,8 @@ flat_region r =
     record {
       number = r.number;
       tag = r.tag;
-      name = r.name;
-      name_len = r.name_len;
+      name = r.name.bytes;
+      name_len = r.name.len;
       kind = kind_code r.kind;
       flags = r.flags;
       log2_block = r.log2_block;
@@ -87,9 +86,9 @@ flat_plan p =
 
 -- Done is 0, a byte 1 and the byte, a refusal 2 and its number.
 abbrev pub flat_reply : Reply → FlatReply
-flat_reply (At a) = record { kind = 1; value = a }
-flat_reply Done = record { kind = 0; value = 0 }
-flat_reply (Refused n) = record { kind = 2; value = n }
+flat_reply (Ok (Some a)) = record { kind = 1; value = a }
+flat_reply (Ok None) = record { kind = 0; value = 0 }
+flat_reply (Err n) = record { kind = 2; value = refusal_number n }
 
 abbrev pub flat_outcome : Outcome → FlatOutcome
 flat_outcome r = record { kind = (flat_reply r.reply).kind; value = (flat_reply r.reply).value; plan = flat_plan r.plan }

@@ -10,8 +10,7 @@ record_from r =
     record {
       number = r.number;
       tag = r.tag;
-      name = r.name;
-      name_len = r.name_len;
+      name = record { bytes = r.name; len = r.name_len };
       entry =
           record {
             kind = kind_of r.kind;
@@ -44,8 +43,8 @@ flat_record r =
     record {
       number = r.number;
       tag = r.tag;
-      name = r.name;
-      name_len = r.name_len;
+      name = r.name.bytes;
+      name_len = r.name.len;
       kind = kind_code r.entry.kind;
       flags = r.entry.flags;
       extent_count = r.entry.extent_count;

@@ -2,9 +2,10 @@
 ghost use Rattle.std.specs.Prelude.{◌≡◌};
 ghost use Rattle.flat_plan.specs.Record.{record_from, records_from, flat_record};
 
-use flat::{code_of, kind_of};
+use flat::kind_of;
 use footprint::{Entry, Header};
 use plan_record::Record;
+use plan_record::names::Name;
 
 #[repr(C)]
 #[derive(Clone, Copy)]
@@ -31,84 +32,75 @@ pub struct FlatRecord {
     pub hcount: u16,
 }
 
-fn record_from(flat: FlatRecord) -> Record
-    ensures { result ≡ record_from flat }
-{
-    let name = flat.name;
-    let kind = kind_of(flat.kind);
-    let header_kind = kind_of(flat.hkind);
-    Record {
-        number: flat.number,
-        tag: flat.tag,
-        name,
-        name_len: flat.name_len,
-        entry: Entry {
-            kind,
-            flags: flat.flags,
-            extent_count: flat.extent_count,
-            header_a: flat.header_a,
-            header_b: flat.header_b,
-            span_start: flat.span_start,
-            span_end: flat.span_end,
-            data_size: flat.data_size,
-            capacity: flat.capacity,
-            footprint_seq: flat.footprint_seq,
-        },
-        header: Header {
-            region_id: flat.hnumber,
-            kind: header_kind,
-            flags: flat.hflags,
-            ready: flat.hready,
-            log2_block: flat.hlog2,
-            extent_count: flat.hcount,
-        },
+impl From<FlatRecord> for Record {
+    ghost from_gives = { λ flat r. r ≡ record_from flat };
+
+    fn from(flat: FlatRecord) -> Record {
+        let bytes = flat.name;
+        let len = flat.name_len;
+        Record {
+            number: flat.number,
+            tag: flat.tag,
+            name: Name { bytes, len },
+            entry: Entry {
+                kind: kind_of(flat.kind),
+                flags: flat.flags,
+                extent_count: flat.extent_count,
+                header_a: flat.header_a,
+                header_b: flat.header_b,
+                span_start: flat.span_start,
+                span_end: flat.span_end,
+                data_size: flat.data_size,
+                capacity: flat.capacity,
+                footprint_seq: flat.footprint_seq,
+            },
+            header: Header {
+                region_id: flat.hnumber,
+                kind: kind_of(flat.hkind),
+                flags: flat.hflags,
+                ready: flat.hready,
+                log2_block: flat.hlog2,
+                extent_count: flat.hcount,
+            },
+        }
     }
 }
 
+// No `From`, since an array is of no crate.
 pub fn records_from(flat: [FlatRecord; 64]) -> [Record; 64]
     ensures { result ≡ records_from flat }
 {
-    let none = Record::blank();
-    let mut records = [none; 64];
-    let mut i = 0;
-    while i < 64 {
-        let one = flat[i];
-        records[i] = record_from(one);
-        i += 1;
-    }
-    records
+    flat.map(Record::from)
 }
 
-pub fn flat_record(filed: Record) -> FlatRecord
-    ensures { result ≡ flat_record filed }
-{
-    let name = filed.name;
-    let entry = filed.entry;
-    let kind = entry.kind;
-    let code = code_of(kind);
-    let header = filed.header;
-    let header_kind = header.kind;
-    let header_code = code_of(header_kind);
-    FlatRecord {
-        number: filed.number,
-        tag: filed.tag,
-        name,
-        name_len: filed.name_len,
-        kind: code,
-        flags: entry.flags,
-        extent_count: entry.extent_count,
-        header_a: entry.header_a,
-        header_b: entry.header_b,
-        span_start: entry.span_start,
-        span_end: entry.span_end,
-        data_size: entry.data_size,
-        capacity: entry.capacity,
-        footprint_seq: entry.footprint_seq,
-        hnumber: header.region_id,
-        hkind: header_code,
-        hflags: header.flags,
-        hready: header.ready,
-        hlog2: header.log2_block,
-        hcount: header.extent_count,
+impl From<Record> for FlatRecord {
+    ghost from_gives = { λ filed r. r ≡ flat_record filed };
+
+    fn from(filed: Record) -> FlatRecord {
+        let Name { bytes, len } = filed.name;
+        let entry = filed.entry;
+        let header = filed.header;
+        FlatRecord {
+            number: filed.number,
+            tag: filed.tag,
+            name: bytes,
+            name_len: len,
+            kind: entry.kind.code(),
+            flags: entry.flags,
+            extent_count: entry.extent_count,
+            header_a: entry.header_a,
+            header_b: entry.header_b,
+            span_start: entry.span_start,
+            span_end: entry.span_end,
+            data_size: entry.data_size,
+            capacity: entry.capacity,
+            footprint_seq: entry.footprint_seq,
+            hnumber: header.region_id,
+            hkind: header.kind.code(),
+            hflags: header.flags,
+            hready: header.ready,
+            hlog2: header.log2_block,
+            hcount: header.extent_count,
+        }
     }
 }

@@ -3,8 +3,9 @@
 ghost use Rattle.std.specs.Prelude.{◌≡◌};
 ghost use Rattle.flat_plan.specs.Plan.{region_from, flat_region};
 
-use flat::{code_of, kind_of};
+use flat::kind_of;
 use plan_record::Region;
+use plan_record::names::Name;
 use regionmap::RegionMap;
 
 #[repr(C)]
@@ -31,62 +32,63 @@ pub struct FlatRegion {
     pub room: usize,
 }
 
-pub fn region_from(flat: FlatRegion) -> Region
-    ensures { result ≡ region_from flat }
-{
-    let name = flat.name;
-    let kind = kind_of(flat.kind);
-    Region {
-        number: flat.number,
-        tag: flat.tag,
-        name,
-        name_len: flat.name_len,
-        kind,
-        flags: flat.flags,
-        log2_block: flat.log2_block,
-        header_a: flat.header_a,
-        header_b: flat.header_b,
-        span_start: flat.span_start,
-        span_end: flat.span_end,
-        footprint_seq: flat.footprint_seq,
-        extent_count: flat.extent_count,
-        row: flat.row,
-        map: RegionMap {
-            first: flat.first,
-            len: flat.len,
-            capacity: flat.capacity,
-            count: flat.runs,
-            room: flat.room,
-        },
+impl From<FlatRegion> for Region {
+    ghost from_gives = { λ flat r. r ≡ region_from flat };
+
+    fn from(flat: FlatRegion) -> Region {
+        let bytes = flat.name;
+        let len = flat.name_len;
+        Region {
+            number: flat.number,
+            tag: flat.tag,
+            name: Name { bytes, len },
+            kind: kind_of(flat.kind),
+            flags: flat.flags,
+            log2_block: flat.log2_block,
+            header_a: flat.header_a,
+            header_b: flat.header_b,
+            span_start: flat.span_start,
+            span_end: flat.span_end,
+            footprint_seq: flat.footprint_seq,
+            extent_count: flat.extent_count,
+            row: flat.row,
+            map: RegionMap {
+                first: flat.first,
+                len: flat.len,
+                capacity: flat.capacity,
+                count: flat.runs,
+                room: flat.room,
+            },
+        }
     }
 }
 
-pub fn flat_region(region: Region) -> FlatRegion
-    ensures { result ≡ flat_region region }
-{
-    let name = region.name;
-    let kind = region.kind;
-    let code = code_of(kind);
-    let map = region.map;
-    FlatRegion {
-        number: region.number,
-        tag: region.tag,
-        name,
-        name_len: region.name_len,
-        kind: code,
-        flags: region.flags,
-        log2_block: region.log2_block,
-        header_a: region.header_a,
-        header_b: region.header_b,
-        span_start: region.span_start,
-        span_end: region.span_end,
-        footprint_seq: region.footprint_seq,
-        extent_count: region.extent_count,
-        row: region.row,
-        first: map.first,
-        len: map.len,
-        capacity: map.capacity,
-        runs: map.count,
-        room: map.room,
+impl From<Region> for FlatRegion {
+    ghost from_gives = { λ region r. r ≡ flat_region region };
+
+    fn from(region: Region) -> FlatRegion {
+        let Name { bytes, len } = region.name;
+        let map = region.map;
+        FlatRegion {
+            number: region.number,
+            tag: region.tag,
+            name: bytes,
+            name_len: len,
+            kind: region.kind.code(),
+            flags: region.flags,
+            log2_block: region.log2_block,
+            header_a: region.header_a,
+            header_b: region.header_b,
+            span_start: region.span_start,
+            span_end: region.span_end,
+            footprint_seq: region.footprint_seq,
+            extent_count: region.extent_count,
+            row: region.row,
+            first: map.first,
+            len: map.len,
+            capacity: map.capacity,
+            runs: map.count,
+            room: map.room,
+        }
     }
 }

@@ -1,33 +1,35 @@
 -- What the check answers, from the tests that it makes and the scratch that it fills.
+use Rattle.std.specs.Prelude.{Option, Some, None, Ok, Err}
 use Prim.Native.Nat.{ℕ, suc, ◌+◌, ◌-◌, ◌*◌, ◌≤◌, ◌<◌}
 use mathlib.Core.Bool.{Bool, true, false}
 use mathlib.Core.List.{List, [], ◌∷◌, ◌++◌}
 use mathlib.Core.Logic.{⊎_elim}
 use mathlib.Core.Path.{◌≡◌, ap, sym, ◌∙◌}
 use native.Mathlib.Omega.{arith}
-use lib.Dec.{eqb}
 use lib.ListN.{length, take, drop, get_or, drop_of_length-le}
 use lib.Pow.{pow_pos}
 use lib.Seq.{drop-cons, length-take-le, take_at}
-use borrow.Author.Tests.{ne_eqb, eqb-true}
-use Rattle.footprint.specs.Footprint.{outside, answer_of, check_of, Checked, committed, ranges, footprint_of, overlaps, entry_tests, header_tests, extent_tests, overlap_tests, refusal_of, Filled}
-use Rattle.footprint.specs.Inner.{before_last, neighbours_meet, LaidOut, Reported}
+use borrow.Author.Tests.{ne_eqb}
+use Rattle.footprint.specs.Footprint.{outside, answer_of, Checked, committed, ranges, footprint_of, overlaps, entry_tests, header_tests, extent_tests, overlap_tests, refusal_of, Filled}
+use Rattle.footprint.specs.Inner.{before_last, neighbours_meet, LaidOut}
 use Rattle.footprint.specs.declared.Entry.{Entry}
 use Rattle.footprint.specs.declared.Header.{Header}
 use Rattle.footprint.specs.declared.Limits.{Limits}
-use Rattle.footprint.specs.declared.Verdict.TheVariants.{Usable, Ahead, Refused}
 use Rattle.numbers.specs.Lists.{All, written}
 use Rattle.numbers.specs.Pairs.{pairs, flat}
 use Rattle.numbers.specs.Range.{Range, range, blank}
-use Rattle.numbers.specs.Refusals.{first, refuse, Answer, accepted, number_of, is_accepted, value_or}
+use Rattle.numbers.specs.Refusals.{first, refuse, accepted, refused, refusal_number}
+use Rattle.numbers.specs.declared.refusal.Refusal.{Refusal}
+use Rattle.numbers.specs.declared.refusal.Refusal.TheVariants.{Overlaps}
+use Rattle.footprint.specs.declared.Extent.{Extent}
 use Rattle.numbers.specs.Sums.{top}
 use Rattle.footprint.proofs.Overlap.{Solid, neighbours_decide, overlaps_sorted}
 use Rattle.footprint.proofs.Passed.{Passed, Inside, all_pass}
-use Rattle.numbers.proofs.Answers.{answer_value, answer_number, number_told, accepts_told}
+use Rattle.numbers.proofs.Answers.{answer_value, answer_number, not_both}
 use Rattle.numbers.proofs.Cases.{by_eq}
 use Rattle.numbers.proofs.Lists.{all_both}
 use Rattle.numbers.proofs.Pairs.{length_flat, pair_at, pair_in}
-use Rattle.numbers.proofs.Refusals.{first_one, first_go, first_stop, first_parts, first_low, refuse_none, refuse_low, each_low}
+use Rattle.numbers.proofs.Refusals.{reason_above, first_one, first_go, first_stop, first_parts, first_low, refuse_none, refuse_low, each_low}
 use Rattle.sort.proofs.Laws.{all_sorted, sorted_ascending, sorted_length}
 
 module _ (lim : Limits) (id : ℕ) (e : Entry) (h : Header) (xs : List ℕ) (places : ℕ) where
@@ -114,19 +116,21 @@ module _ {lim : Limits} {e : Entry} {h : Header} {xs : List ℕ} {places : ℕ} 
 -- ---- the four answers
 
 module _ (lim : Limits) (id : ℕ) (e : Entry) (h : Header) (xs s : List ℕ) where
-  pub refused_early : {r : ℕ} → r ≡ before_last lim id e h xs (length s) → (r ≡ 0 → ⊥) → Filled lim id e h xs s s (answer_of (Refused r))
-  refused_early {r} b d =
+  pub refused_early : (r : Refusal) → refusal_number r ≡ before_last lim id e h xs (length s) → Filled lim id e h xs s s (answer_of (Err r))
+  refused_early r' b =
+      let r = refusal_number r' in
+      let d : r ≡ 0 → ⊥ = λ z. let k = reason_above r' in absurd (omega arith) in
       let n : refusal_of lim id e h xs (length s) ≡ r = early lim id e h xs (length s) (λ z. d (b ∙ z)) ∙ sym b in
       let l = not_last lim id e h xs (length s) in
       let f : r ≡ 13 → ⊥ = λ z. absurd (omega arith) in
       record { answer = sym (rw n (answer_number r _ d)); slots = simp (n, ne_eqb _ _ d, ne_eqb _ _ f) }
 
-  module _ {r : ℕ} (b : r ≡ before_last lim id e h xs (length s)) (z : r ≡ 0) (t : e.span_end ≤ top) {m : Bool} {ys : List ℕ} (o : LaidOut lim e xs ys m) where
+  module _ (b : before_last lim id e h xs (length s) ≡ 0) (t : e.span_end ≤ top) {m : Bool} {ys : List ℕ} (o : LaidOut lim e xs ys m) where
     pub passed : Passed lim e h xs (length s)
-    passed = all_pass lim id e h xs (length s) (sym b ∙ z)
+    passed = all_pass lim id e h xs (length s) b
 
     number : refusal_of lim id e h xs (length s) ≡ refuse 13 m
-    number = late lim id e h xs (length s) (sym b ∙ z) ∙ ap (refuse 13) (sym (o.answer ∙ decided passed t))
+    number = late lim id e h xs (length s) b ∙ ap (refuse 13) (sym (o.answer ∙ decided passed t))
 
     kept : ys ++ drop (2 * e.extent_count + 4 - 0) s ≡ written (flat (footprint_of lim e xs)) s
     kept =
@@ -134,7 +138,7 @@ module _ (lim : Limits) (id : ℕ) (e : Entry) (h : Header) (xs s : List ℕ) wh
         let k : 2 * e.extent_count + 4 - 0 ≡ length (flat (footprint_of lim e xs)) = omega arith in
         rw (o.slots, k)
 
-    pub refused_last : m ≡ true → Filled lim id e h xs s (ys ++ drop (2 * e.extent_count + 4 - 0) s) (answer_of (Refused 13))
+    pub refused_last : m ≡ true → Filled lim id e h xs s (ys ++ drop (2 * e.extent_count + 4 - 0) s) (answer_of (Err Overlaps))
     unfolding refuse
     refused_last w =
         let n : refusal_of lim id e h xs (length s) ≡ 13 = number ∙ ap (refuse 13) w in
@@ -145,37 +149,29 @@ module _ (lim : Limits) (id : ℕ) (e : Entry) (h : Header) (xs s : List ℕ) wh
       unfolding refuse
       none = number ∙ ap (refuse 13) w
 
-      pub usable : h.extent_count ≤ e.extent_count → Filled lim id e h xs s (ys ++ drop (2 * e.extent_count + 4 - 0) s) (answer_of Usable)
+      pub usable : h.extent_count ≤ e.extent_count → Filled lim id e h xs s (ys ++ drop (2 * e.extent_count + 4 - 0) s) (answer_of (Ok None))
       usable l = record { answer = sym (answer_value _ _ none ∙ ap accepted (no_extra passed l)); slots = kept ∙ simp none }
 
-      pub ahead : e.extent_count < h.extent_count → Filled lim id e h xs s (ys ++ drop (2 * e.extent_count + 4 - 0) s) (answer_of (Ahead (get_or xs (2 * e.extent_count) 0) (get_or xs (2 * e.extent_count + 1) 0)))
+      pub ahead : e.extent_count < h.extent_count → Filled lim id e h xs s (ys ++ drop (2 * e.extent_count + 4 - 0) s) (answer_of (Ok (Some (record { offset = get_or xs (2 * e.extent_count) 0; len = get_or xs (2 * e.extent_count + 1) 0 }))))
       ahead l = record { answer = sym (answer_value _ _ none ∙ ap accepted (one_extra passed l)); slots = kept ∙ simp none }
 
 -- ---- the part that is handed back
 
-module _ (lim : Limits) (id : ℕ) (e : Entry) (h : Header) (xs s : List ℕ) where
-  module _ {a : Answer (List Range)} {t : List ℕ} (f : Filled lim id e h xs s t a) {n : ℕ} {old extra : Range} {m : Bool} (g : Reported a n old extra m) where
-    number_is : n ≡ refusal_of lim id e h xs (length s)
-    number_is = g.number ∙ ap number_of f.answer ∙ number_told _ _
+not_refused : (x : Option Extent) (n : ℕ) → answer_of (Ok x) ≡ refused n → ⊥
+not_refused None n e = not_both _ n e
+not_refused (Some x) n e = not_both _ n e
 
-    extra_told : extra ≡ get_or (value_or [] (check_of lim id e h xs (length s))) 0 old
-    extra_told = g.handed ∙ ap (λ (a : Answer (List Range)). get_or (value_or [] a) 0 old) f.answer
+module _ (lim : Limits) (id : ℕ) (e : Entry) (h : Header) (xs s : List ℕ) (x : Option Extent) {t : List ℕ} (f : Filled lim id e h xs s t (answer_of (Ok x))) where
+  no_refusal : refusal_of lim id e h xs (length s) ≡ 0
+  no_refusal = by_eq (refusal_of lim id e h xs (length s)) 0 (λ z. z) (λ d. absurd (not_refused x _ (f.answer ∙ answer_number _ _ d)))
 
-    told : m ≡ eqb (refusal_of lim id e h xs (length s)) 0
-    told = g.accepts ∙ ap is_accepted f.answer ∙ accepts_told _ _
+  pub room : 2 * e.extent_count + 4 ≤ length s
+  room = let p = (accepted_passed lim id e h xs (length s) no_refusal).lists.room in omega arith
 
-    pub room : m ≡ true → 2 * e.extent_count + 4 ≤ length s
-    room y = let p = (accepted_passed lim id e h xs (length s) (eqb-true _ _ (sym told ∙ y))).lists.room in omega arith
-
-    pub part : m ≡ true → Checked lim id e h xs s (take (2 * e.extent_count + 4 - 0) t) n old extra
-    part y =
-        let z = eqb-true _ _ (sym told ∙ y) in
-        let l = footprint_length (accepted_passed lim id e h xs (length s) z) in
-        record {
-          number = number_is;
-          filled = rw (f.slots, z) (take_at (flat (footprint_of lim e xs)) (drop (length (flat (footprint_of lim e xs))) s) (2 * e.extent_count + 4 - 0) (omega arith));
-          handed = extra_told;
-        }
-
-    pub no_part : m ≡ false → Checked lim id e h xs s (take (0 - 0) t) n old extra
-    no_part y = record { number = number_is; filled = simp (sym told ∙ y); handed = extra_told }
+  pub part : Checked lim id e h xs s (take (2 * e.extent_count + 4 - 0) t) (answer_of (Ok x))
+  part =
+      let l = footprint_length (accepted_passed lim id e h xs (length s) no_refusal) in
+      record {
+        answer = f.answer;
+        filled = rw (f.slots, no_refusal) (take_at (flat (footprint_of lim e xs)) (drop (length (flat (footprint_of lim e xs))) s) (2 * e.extent_count + 4 - 0) (omega arith));
+      }

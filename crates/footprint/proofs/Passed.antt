@@ -1,4 +1,6 @@
 -- What it means that a test of the check did not fail.
+use Rattle.footprint.specs.contracts.RegionKind.{the_type}
+use denote.Enum.Bare.{sameb}
 use Prim.Native.Nat.{ℕ, ◌+◌, ◌*◌, ◌%◌, ◌≤◌, ◌<◌}
 use mathlib.Core.Bool.{false, not}
 use mathlib.Core.List.{List, ◌++◌}
@@ -162,6 +164,19 @@ all_pass lim id e h xs places p =
     }
 
 -- kinds with the same number are the same
+-- kinds that the code finds the same have one number
+pub same_kind : (k j : RegionKind) → sameb the_type k j ≡ eqb (kind_code k) (kind_code j)
+unfolding kind_code
+same_kind Append Append = refl
+same_kind Append Page = refl
+same_kind Append Slot = refl
+same_kind Page Append = refl
+same_kind Page Page = refl
+same_kind Page Slot = refl
+same_kind Slot Append = refl
+same_kind Slot Page = refl
+same_kind Slot Slot = refl
+
 pub kinds_tell : (k j : RegionKind) → kind_code k ≡ kind_code j → k ≡ j
 unfolding kind_code
 kinds_tell Append Append e = refl

@@ -1,16 +1,16 @@
 -- Document 01, "Footprint check": what `check_region` refuses, and the footprint of a region that it accepts.
-use Rattle.std.specs.Prelude.{ℕ, ◌+◌, ◌-◌, ◌*◌, ◌/◌, ◌%◌, ◌^◌, min, max, Bool, false, cond, not, ◌&&◌, ◌||◌, List, [], ◌∷◌, ◌++◌, ◌≡◌, ltb, eqb, length, get_or, take, drop}
+use Rattle.std.specs.Prelude.{ℕ, ◌+◌, ◌-◌, ◌*◌, ◌/◌, ◌%◌, ◌^◌, min, max, Bool, false, cond, not, ◌&&◌, ◌||◌, List, [], ◌∷◌, ◌++◌, ◌≡◌, ltb, eqb, length, take, drop, Option, Some, None, Result, Ok, Err}
 use Rattle.footprint.specs.declared.Entry.{Entry}
 use Rattle.footprint.specs.declared.Header.{Header}
 use Rattle.footprint.specs.declared.Limits.{Limits}
 use Rattle.footprint.specs.declared.RegionKind.{RegionKind}
 use Rattle.footprint.specs.declared.RegionKind.TheVariants.{Append, Page, Slot}
-use Rattle.footprint.specs.declared.Verdict.{Verdict}
-use Rattle.footprint.specs.declared.Verdict.TheVariants.{Usable, Ahead, Refused}
+use Rattle.footprint.specs.declared.Extent.{Extent}
 use Rattle.numbers.specs.Lists.{any, written}
 use Rattle.numbers.specs.Pairs.{is_odd, pairs, flat}
 use Rattle.numbers.specs.Range.{Range, range, meets, total}
-use Rattle.numbers.specs.Refusals.{refuse, first, Answer, accepted, refused, answer, value_or, each_extent}
+use Rattle.numbers.specs.Refusals.{refuse, first, Answer, accepted, refused, answer, refusal_number, each_extent}
+use Rattle.numbers.specs.declared.refusal.Refusal.{Refusal}
 use Rattle.numbers.specs.Sums.{top}
 use Rattle.sort.specs.Sort.{sorted}
 
@@ -27,6 +27,10 @@ unfoldable pub kind_code : RegionKind → ℕ
 kind_code Append = 1
 kind_code Page = 2
 kind_code Slot = 3
+
+-- The kind that has a number in the table, and no kind where none has it.
+unfoldable pub kind_in : ℕ → Result RegionKind (Unit {0})
+kind_in n = cond (eqb n 1) (Ok Append) (cond (eqb n 2) (Ok Page) (cond (eqb n 3) (Ok Slot) (Err tt)))
 
 -- "committed extent (the first ones up to the entry's count, or all if the header lists fewer)"
 abbrev pub committed : Entry → List ℕ → List Range
@@ -142,10 +146,10 @@ refusal_of lim id e h xs places =
     first (entry_tests lim e h xs places ++ header_tests id e h ++ extent_tests lim e (committed e xs) ++ overlap_tests (ranges lim e xs))
 
 -- A usable region with the extra extent, if one is handed out; or document 01's number.
-abbrev pub answer_of : Verdict → Answer (List Range)
-answer_of Usable = accepted []
-answer_of (Ahead offset len) = accepted (range offset len ∷ [])
-answer_of (Refused n) = refused n
+abbrev pub answer_of : Result (Option Extent) Refusal → Answer (List Range)
+answer_of (Ok None) = accepted []
+answer_of (Ok (Some x)) = accepted (range x.offset x.len ∷ [])
+answer_of (Err r) = refused (refusal_number r)
 
 -- "that extra one is handed out unchecked"
 abbrev pub extra_of : Entry → List ℕ → List Range
@@ -160,18 +164,13 @@ check_of lim id e h xs places = answer (refusal_of lim id e h xs places) (extra_
 abbrev pub scratch_of : Limits → Entry → List ℕ → ℕ → List ℕ → List ℕ
 scratch_of lim e xs n s = cond (eqb n 0 || eqb n 13) (written (flat (footprint_of lim e xs)) s) s
 
--- "that filled front part is handed back", the empty one where the region is refused.
-abbrev pub part_of : Limits → Entry → List ℕ → ℕ → List ℕ
-part_of lim e xs n = cond (eqb n 0) (flat (footprint_of lim e xs)) []
-
 -- What `fill_footprint` promises: its answer, and every slot of scratch.
 pub record Filled (lim : Limits) (id : ℕ) (e : Entry) (h : Header) (xs s₀ s : List ℕ) (a : Answer (List Range)) : Type 0 where
   pub answer : a ≡ check_of lim id e h xs (length s₀)
   pub slots : s ≡ scratch_of lim e xs (refusal_of lim id e h xs (length s₀)) s₀
 
--- What `check_region` promises: the refusal, the part that it hands back, and the extra's slots, which keep
--- the old range where no extra is handed out.
-pub record Checked (lim : Limits) (id : ℕ) (e : Entry) (h : Header) (xs s₀ part : List ℕ) (refusal : ℕ) (old extra : Range) : Type 0 where
-  pub number : refusal ≡ refusal_of lim id e h xs (length s₀)
-  pub filled : part ≡ part_of lim e xs (refusal_of lim id e h xs (length s₀))
-  pub handed : extra ≡ get_or (value_or [] (check_of lim id e h xs (length s₀))) 0 old
+-- "Accepted: the first count + 2 pairs of scratch hold it sorted by (offset, length), and that filled front part is handed back",
+-- with the extra.
+pub record Checked (lim : Limits) (id : ℕ) (e : Entry) (h : Header) (xs s₀ part : List ℕ) (a : Answer (List Range)) : Type 0 where
+  pub answer : a ≡ check_of lim id e h xs (length s₀)
+  pub filled : part ≡ flat (footprint_of lim e xs)

@@ -1,12 +1,12 @@
 -- What the steps of the check do; no public call promises anything by these.
-use Rattle.std.specs.Prelude.{ℕ, ◌-◌, Bool, false, ◌||◌, List, [], ◌∷◌, ◌++◌, ◌≡◌, ltb, get_or}
+use Rattle.std.specs.Prelude.{ℕ, ◌-◌, Bool, false, ◌||◌, List, [], ◌∷◌, ◌++◌, ◌≡◌, ltb}
 use Rattle.footprint.specs.Footprint.{committed, footprint_of, entry_tests, header_tests, extent_tests}
 use Rattle.footprint.specs.declared.Entry.{Entry}
 use Rattle.footprint.specs.declared.Header.{Header}
 use Rattle.footprint.specs.declared.Limits.{Limits}
 use Rattle.numbers.specs.Pairs.{flat}
 use Rattle.numbers.specs.Range.{Range}
-use Rattle.numbers.specs.Refusals.{first, Answer, number_of, is_accepted, value_or}
+use Rattle.numbers.specs.Refusals.{first}
 
 -- Every refusal but 13.
 unfoldable pub before_last : Limits → ℕ → Entry → Header → List ℕ → ℕ → ℕ
@@ -22,9 +22,3 @@ neighbours_meet (r ∷ q ∷ rs) = ltb (q.offset - r.offset) r.len || neighbours
 pub record LaidOut (lim : Limits) (e : Entry) (xs s : List ℕ) (meet : Bool) : Type 0 where
   pub slots : s ≡ flat (footprint_of lim e xs)
   pub answer : meet ≡ neighbours_meet (footprint_of lim e xs)
-
--- An answer in lent numbers, and whether it accepts.
-pub record Reported (a : Answer (List Range)) (refusal : ℕ) (old extra : Range) (usable : Bool) : Type 0 where
-  pub number : refusal ≡ number_of a
-  pub handed : extra ≡ get_or (value_or [] a) 0 old
-  pub accepts : usable ≡ is_accepted a

@@ -6,21 +6,48 @@ mod extents;
 mod layout;
 mod records;
 
-ghost use Rattle.std.specs.Prelude.{◌≡◌};
-ghost use Rattle.numbers.specs.Range.{range};
-ghost use Rattle.footprint.specs.Footprint.{max_extents, answer_of, Filled, Checked};
-ghost use Rattle.footprint.specs.Inner.{before_last, Reported};
+ghost use Rattle.std.specs.Prelude.{◌≡◌, ◌≤◌, ◌<◌, ◌^◌, min, length, Ok, Err, IfOk, MatchResult};
+ghost use Rattle.numbers.specs.Refusals.{refusal_in};
+ghost use Rattle.footprint.specs.Footprint.{kind_code, kind_in, max_extents, answer_of, check_of, Filled, Checked};
+ghost use Rattle.footprint.specs.Inner.{before_last};
 
-use extents::extents_refusal;
+use extents::check_extents;
 use layout::lay_out;
-use records::{block_of, entry_fails, header_refusal, held, lists_fail, logs_fail};
+use numbers::Refusal;
+use records::{check_header, entry_fails, held, lists_fail, logs_fail};
 
 // What a region is for.
-#[derive(Clone, Copy)]
+#[derive(Clone, Copy, Debug, PartialEq, Eq)]
 pub enum RegionKind {
-    Append,
-    Page,
-    Slot,
+    Append = 1,
+    Page = 2,
+    Slot = 3,
+}
+
+impl RegionKind {
+    // Its number in the table.
+    #[tactic(auto, unfolding(crate::specs::Footprint::kind_code))]
+    pub fn code(self) -> u8
+        ensures { result ≡ kind_code self }
+    {
+        self as u8
+    }
+}
+
+impl TryFrom<u64> for RegionKind {
+    type Error = ();
+
+    ghost try_from_gives = { λ code r. r ≡ kind_in code };
+
+    #[tactic(auto, unfolding(crate::specs::Footprint::kind_in))]
+    fn try_from(code: u64) -> Result<RegionKind, ()> {
+        match code {
+            1 => Ok(RegionKind::Append),
+            2 => Ok(RegionKind::Page),
+            3 => Ok(RegionKind::Slot),
+            _ => Err(()),
+        }
+    }
 }
 
 // What the check needs from the container: the log of its block, where its table ends, its length.
@@ -57,13 +84,18 @@ pub struct Header {
     pub extent_count: u16,
 }
 
-// A usable region; a usable one whose header lists an extent more than the entry, with that
-// extent's offset and length; or document 01's refusal.
-#[derive(Clone, Copy)]
-pub enum Verdict {
-    Usable,
-    Ahead(u64, u64),
-    Refused(u64),
+// An extent, which the check hands out as the header lists it.
+#[derive(Clone, Copy, Debug, PartialEq, Eq)]
+pub struct Extent {
+    pub offset: u64,
+    pub len: u64,
+}
+
+// 2^log2 of a block log; no container has one above 16.
+pub fn block_of(log2: u8) -> u64
+    ensures { (result ≡ 2 ^ min log2 16) × (result ≤ 65536) × (0 < result) }
+{
+    1u64 << log2.min(16)
 }
 
 // Most extents that a region header can list.
@@ -73,34 +105,33 @@ pub fn max_extents(log2: u8) -> usize
     ((block_of(held(log2)) - 192) / 16) as usize
 }
 
-// Every refusal of document 01 but the last, 13; 0 where there is none.
-fn refusal_before(
+// Every refusal of the check but the last, 13. Each test takes what it reads of the five arguments, which a
+// struct of all would hide; the public calls take them as the Rust's do.
+fn check_before_overlap(
     limits: Limits,
     id: u64,
     entry: Entry,
     header: Header,
     extents: &[u64],
     places: usize,
-) -> u64
-    ensures { result ≡ before_last limits id entry header extents.now places }
+) -> Result<(), Refusal>
+    ensures { refusal_in result ≡ before_last limits id entry header extents.now places }
 {
     if lists_fail(limits, entry, header, extents, places) {
-        return 1;
+        return Err(Refusal::Lists);
     }
     if logs_fail(limits, header) {
-        return 2;
+        return Err(Refusal::Block);
     }
     if entry_fails(limits, entry, extents) {
-        return 4;
+        return Err(Refusal::Entry);
     }
-    let refusal = header_refusal(id, entry, header);
-    if refusal != 0 {
-        return refusal;
-    }
-    extents_refusal(limits, entry, extents)
+    check_header(id, entry, header)?;
+    check_extents(limits, entry, extents)
 }
 
-// Checks a region. Where it is usable, or refused with 13, the front of scratch holds its footprint.
+// Checks a region; hands out the extent that its header may list beyond the entry's. Where it is usable,
+// or refused since it overlaps itself, the front of scratch holds its footprint.
 pub fn fill_footprint(
     limits: Limits,
     id: u64,
@@ -108,48 +139,26 @@ pub fn fill_footprint(
     header: Header,
     extents: &[u64],
     scratch: &mut [u64],
-) -> Verdict
+) -> Result<Option<Extent>, Refusal>
     ensures { Filled limits id entry header extents.now scratch.old scratch.new (answer_of result) }
 {
-    let refusal = refusal_before(limits, id, entry, header, extents, scratch.len());
-    if refusal != 0 {
-        return Verdict::Refused(refusal);
-    }
+    check_before_overlap(limits, id, entry, header, extents, scratch.len())?;
     let committed = entry.extent_count as usize;
     let end = 2 * committed + 4;
     if lay_out(limits, entry, extents, &mut scratch[0..end]) {
-        return Verdict::Refused(13);
+        return Err(Refusal::Overlaps);
     }
     if header.extent_count > entry.extent_count {
-        return Verdict::Ahead(extents[2 * committed], extents[2 * committed + 1]);
+        return Ok(Some(Extent {
+            offset: extents[2 * committed],
+            len: extents[2 * committed + 1],
+        }));
     }
-    Verdict::Usable
+    Ok(None)
 }
 
-// Writes a verdict into the lent numbers; answers whether the region is usable.
-fn report(verdict: Verdict, refusal: &mut u64, offset: &mut u64, len: &mut u64) -> bool
-    ensures { Reported (answer_of verdict) refusal.new (range offset.old len.old) (range offset.new len.new) result }
-{
-    match verdict {
-        Verdict::Usable => {
-            *refusal = 0;
-            true
-        }
-        Verdict::Ahead(o, l) => {
-            *refusal = 0;
-            *offset = o;
-            *len = l;
-            true
-        }
-        Verdict::Refused(number) => {
-            *refusal = number;
-            false
-        }
-    }
-}
-
-// Checks a region, and hands back the front part of scratch that holds its footprint; the empty
-// part where it is refused.
+// Checks a region, and hands back the front part of scratch that holds its footprint, with the extent
+// that its header may list beyond the entry's.
 pub fn check_region<'a>(
     limits: Limits,
     id: u64,
@@ -157,17 +166,11 @@ pub fn check_region<'a>(
     header: Header,
     extents: &[u64],
     scratch: &'a mut [u64],
-    refusal: &mut u64,
-    offset: &mut u64,
-    len: &mut u64,
-) -> &'a mut [u64]
-    ensures checked { Checked limits id entry header extents.now scratch.old result.now refusal.new (range offset.old len.old) (range offset.new len.new) }
-    ensures ref_ptr_value { result.ref_ptr ≡ scratch.entry.ref_ptr }
+) -> Result<(&'a mut [u64], Option<Extent>), Refusal>
+    ensures checked { MatchResult result (λ r. Checked limits id entry header extents.now scratch.old r.0.now (answer_of (Ok r.1))) (λ e. answer_of (Err e) ≡ check_of limits id entry header extents.now (length scratch.old)) }
+    ensures in_front { IfOk result (λ r. r.0.ref_ptr ≡ scratch.entry.ref_ptr) }
 {
-    let verdict = fill_footprint(limits, id, entry, header, extents, scratch);
-    if report(verdict, refusal, offset, len) {
-        let end = 2 * (entry.extent_count as usize) + 4;
-        return &mut scratch[0..end];
-    }
-    &mut scratch[0..0]
+    let extra = fill_footprint(limits, id, entry, header, extents, scratch)?;
+    let end = 2 * (entry.extent_count as usize) + 4;
+    Ok((&mut scratch[0..end], extra))
 }

@@ -1,27 +1,25 @@
 -- First fit, gap by gap.
-use Rattle.std.proofs.Common.{◌≡◌, ℕ, ◌+◌, ◌-◌, ◌*◌, ◌%◌, ◌^◌, ◌<◌, ◌≤◌, true, false, List, [], ◌∷◌, length, get_or, drop, sym, refl, ap, ◌∙◌, arith, drop_of_length-le, le-ltb, lt-ltb, le-leb}
+use Rattle.std.proofs.Common.{◌≡◌, ℕ, ◌+◌, ◌-◌, ◌%◌, ◌^◌, ◌<◌, ◌≤◌, true, false, List, [], ◌∷◌, length, get_or, drop, sym, refl, ap, ◌∙◌, arith, drop_of_length-le, le-ltb, lt-ltb, le-leb, suc, drop-cons}
 use mathlib.Core.Bool.{and-false}
-use mathlib.Core.Option.{Option, none, some}
+use Rattle.std.specs.Prelude.{Option, None, Some}
 use lib.Bits.{bit_and, and_le_r}
 use borrow.Author.Tests.{lt-leb}
 use Rattle.freemap.specs.Fit.{place_in, skipped, allows, first_fit}
-use Rattle.numbers.specs.Pairs.{pairs}
 use Rattle.numbers.specs.Powers.{is_power_of_two}
-use Rattle.numbers.specs.Range.{Range, range, end_of}
+use Rattle.numbers.specs.Range.{Range, range, end_of, blank}
 use Rattle.numbers.specs.Sums.{top}
 use Rattle.align.proofs.Least.{masked}
-use Rattle.numbers.proofs.Cases.{cases, by_lt}
-use Rattle.numbers.proofs.Pairs.{pair_next}
+use Rattle.numbers.proofs.Cases.{cases, by_lt, none_some}
 use Rattle.numbers.proofs.Ranges.{end_le, end_top}
 
 -- ---- one gap: what allows it, and what does not
 
 module _ (len align skew : ℕ) (g : Range) where
-  pub refused_by : allows len align skew g ≡ false → first_fit len align skew (g ∷ []) ≡ none
+  pub refused_by : allows len align skew g ≡ false → first_fit len align skew (g ∷ []) ≡ None
   unfolding first_fit
   refused_by e = simp e
 
-  pub allowed_by : allows len align skew g ≡ true → first_fit len align skew (g ∷ []) ≡ some (place_in align skew g)
+  pub allowed_by : allows len align skew g ≡ true → first_fit len align skew (g ∷ []) ≡ Some (place_in align skew g)
   unfolding first_fit
   allowed_by e = simp e
 
@@ -65,13 +63,13 @@ module _ (len mask skew start bytes : ℕ) (power : is_power_of_two (mask + 1) �
       let l = and_le_r (start + (skew + mask)) mask in
       omega arith
 
-  beyond : end_of gap < start + pad + len → fit ≡ none
+  beyond : end_of gap < start + pad + len → fit ≡ None
   beyond h = refused_by len (mask + 1) skew gap (too_far len (mask + 1) skew gap (rw pad_place h))
 
-  pub fit_short : bytes < len → fit ≡ none
+  pub fit_short : bytes < len → fit ≡ None
   fit_short h = beyond (let e = end_le gap in omega arith)
 
-  pub fit_skipped : top < start + (skew + mask) → fit ≡ none
+  pub fit_skipped : top < start + (skew + mask) → fit ≡ None
   fit_skipped h = refused_by len (mask + 1) skew gap (skips len (mask + 1) skew gap (omega arith))
 
   -- the two sums as they wrap: both are right unless the gap is skipped
@@ -79,7 +77,7 @@ module _ (len mask skew start bytes : ℕ) (power : is_power_of_two (mask + 1) �
     exact : start + (skew + mask) ≤ top → reach ≡ start + (skew + mask)
     exact s = omega (arith, reached)
 
-    pub fit_far : len ≤ bytes → bytes - len < mask - bit_and reach mask → fit ≡ none
+    pub fit_far : len ≤ bytes → bytes - len < mask - bit_and reach mask → fit ≡ None
     fit_far l h =
         by_lt top (start + (skew + mask)) fit_skipped (λ s. beyond (let f : bytes - len < pad = rw (exact s) at h in let e = end_le gap in omega arith))
 
@@ -87,62 +85,59 @@ module _ (len mask skew start bytes : ℕ) (power : is_power_of_two (mask + 1) �
       place_exact : start + (skew + mask) ≤ top → at ≡ start + pad
       place_exact s = let e : at ≡ (start + pad) % 2 ^ 64 = rw (exact s) at placed in omega (arith, e)
 
-      pub fit_high : top - at < len → fit ≡ none
+      pub fit_high : top - at < len → fit ≡ None
       fit_high h =
           by_lt top (start + (skew + mask)) fit_skipped (λ s. beyond (let p = place_exact s in let e = end_top gap in omega arith))
 
-      pub fit_at : start + (skew + mask) ≤ top → len ≤ bytes → mask - bit_and reach mask ≤ bytes - len → len ≤ top - at → fit ≡ some at
+      pub fit_at : start + (skew + mask) ≤ top → len ≤ bytes → mask - bit_and reach mask ≤ bytes - len → len ≤ top - at → fit ≡ Some at
       unfolding end_of
       fit_at s l p h =
           let q : pad ≤ bytes - len = rw (exact s) at p in
           let k = place_exact s in
           allowed_by len (mask + 1) skew gap (has_room len (mask + 1) skew gap (omega arith) (rw pad_place (omega arith)))
-          ∙ ap some (pad_place ∙ sym k)
+          ∙ ap Some (pad_place ∙ sym k)
 
 -- ---- one gap more
 
-pub none_some : {a : ℕ} → none ≡ some a → ⊥
-none_some e = let z : ◌≡◌ {A = ℕ} 0 1 = cc in omega arith
-
 module _ (len align skew : ℕ) (g : Range) (gs : List Range) where
-  pub fit_here : (a : ℕ) → first_fit len align skew (g ∷ []) ≡ some a → first_fit len align skew (g ∷ gs) ≡ some a
+  pub fit_here : (a : ℕ) → first_fit len align skew (g ∷ []) ≡ Some a → first_fit len align skew (g ∷ gs) ≡ Some a
   unfolding first_fit
-  fit_here a e = cases (allows len align skew g) (λ t. simp t ((simp t at e))) (λ t. let z : none ≡ some a = simp t at e in absurd (none_some z))
+  fit_here a e = cases (allows len align skew g) (λ t. simp t ((simp t at e))) (λ t. let z : None ≡ Some a = simp t at e in absurd (none_some z))
 
-  pub fit_later : first_fit len align skew (g ∷ []) ≡ none → first_fit len align skew (g ∷ gs) ≡ first_fit len align skew gs
+  pub fit_later : first_fit len align skew (g ∷ []) ≡ None → first_fit len align skew (g ∷ gs) ≡ first_fit len align skew gs
   unfolding first_fit
-  fit_later e = cases (allows len align skew g) (λ t. let z : some (place_in align skew g) ≡ none = simp t at e in absurd (none_some (sym z))) (λ t. simp t)
+  fit_later e = cases (allows len align skew g) (λ t. let z : Some (place_in align skew g) ≡ None = simp t at e in absurd (none_some (sym z))) (λ t. simp t)
 
 -- ---- the search: no gap in front of i allows it
 
-pub record Searching (len align skew : ℕ) (gs : List ℕ) (i : ℕ) : Type 0 where
-  pub below : i ≤ length (pairs gs)
-  pub rest : first_fit len align skew (pairs gs) ≡ first_fit len align skew (drop i (pairs gs))
+pub record Searching (len align skew : ℕ) (gs : List Range) (i : ℕ) : Type 0 where
+  pub below : i ≤ length gs
+  pub rest : first_fit len align skew gs ≡ first_fit len align skew (drop i gs)
 
-pub search_begins : (len align skew : ℕ) (gs : List ℕ) → Searching len align skew gs 0
+pub search_begins : (len align skew : ℕ) (gs : List Range) → Searching len align skew gs 0
 search_begins len align skew gs = record { below = omega arith; rest = refl }
 
-module _ {len align skew : ℕ} {gs : List ℕ} {i : ℕ} (g : Searching len align skew gs i) where
-  module _ (h : i < length (pairs gs)) where
-    abbrev here : Range
-    here = range (get_or gs (2 * i) 0) (get_or gs (2 * i + 1) 0)
+module _ {len align skew : ℕ} {gs : List Range} {i : ℕ} (g : Searching len align skew gs i) where
+  module _ {here : Range} (h : i < length gs) (x : get_or gs i blank ≡ here) where
+    next : drop i gs ≡ here ∷ drop (i + 1) gs
+    next = let e : suc i ≡ i + 1 = omega arith in drop-cons gs i blank h ∙ rw (x, e)
 
-    pub search_found : (a : ℕ) → first_fit len align skew (here ∷ []) ≡ some a → first_fit len align skew (pairs gs) ≡ some a
-    search_found a e = g.rest ∙ ap (first_fit len align skew) (pair_next gs i h) ∙ fit_here len align skew here (drop (i + 1) (pairs gs)) a e
+    pub search_found : {a : ℕ} → first_fit len align skew (here ∷ []) ≡ Some a → first_fit len align skew gs ≡ Some a
+    search_found {a} e = g.rest ∙ ap (first_fit len align skew) (next) ∙ fit_here len align skew here (drop (i + 1) gs) a e
 
-    pub search_on : first_fit len align skew (here ∷ []) ≡ none → Searching len align skew gs (i + 1)
+    pub search_on : first_fit len align skew (here ∷ []) ≡ None → Searching len align skew gs (i + 1)
     search_on e =
         record {
           below = omega arith;
-          rest = g.rest ∙ ap (first_fit len align skew) (pair_next gs i h) ∙ fit_later len align skew here (drop (i + 1) (pairs gs)) e;
+          rest = g.rest ∙ ap (first_fit len align skew) (next) ∙ fit_later len align skew here (drop (i + 1) gs) e;
         }
 
-  pub search_ends : length (pairs gs) ≤ i → first_fit len align skew (pairs gs) ≡ none
+  pub search_ends : length gs ≤ i → first_fit len align skew gs ≡ None
   unfolding first_fit
-  search_ends h = g.rest ∙ ap (first_fit len align skew) (drop_of_length-le (pairs gs) {i = i} h)
+  search_ends h = g.rest ∙ ap (first_fit len align skew) (drop_of_length-le gs {i = i} h)
 
 -- every gap is skipped
-pub all_skipped : (len align skew : ℕ) → top < skew + (align - 1) → (gs : List Range) → first_fit len align skew gs ≡ none
+pub all_skipped : (len align skew : ℕ) → top < skew + (align - 1) → (gs : List Range) → first_fit len align skew gs ≡ None
 unfolding first_fit
 all_skipped len align skew h [] = refl
 all_skipped len align skew h (g ∷ gs) = simp (skips len align skew g (omega arith)) (all_skipped len align skew h gs)

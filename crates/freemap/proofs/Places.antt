@@ -1,17 +1,17 @@
 -- First fit in words: the least place of all, by gaps and by free bytes.
 use Rattle.std.proofs.Common.{◌≡◌, ℕ, suc, ◌+◌, ◌-◌, ◌*◌, ◌<◌, ◌≤◌, true, false, not, List, [], ◌∷◌, sym, refl, ap, ◌∙◌, inl, inr, ⊎_elim, le_antisymm, arith, leb-true}
-use mathlib.Core.Option.{Option, none, some}
+use Rattle.std.specs.Prelude.{Option, None, Some}
 use Rattle.freemap.specs.Fit.{place_in, skipped, allows, first_fit}
 use Rattle.freemap.specs.Gaps.{Covered, gaps_of}
 use Rattle.numbers.specs.Lists.{All, Any}
 use Rattle.numbers.specs.Range.{Range, range, blank, end_of, Has, Meet}
 use Rattle.numbers.specs.Sums.{top}
 use Rattle.align.proofs.Least.{up_least}
-use Rattle.freemap.proofs.Fitting.{has_room, none_some}
+use Rattle.freemap.proofs.Fitting.{has_room}
 use Rattle.freemap.proofs.Maximal.{Apart}
 use Rattle.freemap.proofs.Ordered.{Spans, apart_from}
 use Rattle.freemap.proofs.Words.{gap_free, gaps_apart, gaps_inside, span_in_gap}
-use Rattle.numbers.proofs.Cases.{cases, clash, and-true}
+use Rattle.numbers.proofs.Cases.{cases, by_answer, none_some, clash, and-true}
 use Rattle.numbers.proofs.Disjoint.{MeetsNone}
 use Rattle.numbers.proofs.Lists.{all_imp, all_of, all_at, any_imp, any_of, any_at}
 use Rattle.numbers.proofs.Ranges.{end_le, end_exact}
@@ -65,13 +65,13 @@ module _ (n align skew : ℕ) (pos : 0 < align) where
       has_room n align skew g s (omega arith)
 
   -- the answer is a place
-  pub fit_found : (gs : List Range) (a : ℕ) → first_fit n align skew gs ≡ some a → Fits gs n align skew a
+  pub fit_found : (gs : List Range) (a : ℕ) → first_fit n align skew gs ≡ Some a → Fits gs n align skew a
   unfolding first_fit
   fit_found [] a e = absurd (none_some e)
   fit_found (g ∷ gs) a e =
       cases (allows n align skew g)
       (λ t.
-      let q : some (place_in align skew g) ≡ some a = simp t at e in
+      let q : Some (place_in align skew g) ≡ Some a = simp t at e in
       let s : place_in align skew g ≡ a = cc in
       rw (← s) (record { multiple = (place_least align skew pos g).multiple; gap = inl (allowed g t) }))
       (λ t.
@@ -84,13 +84,13 @@ module _ (n align skew : ℕ) (pos : 0 < align) where
       ⊎_elim (λ i. clash (allowing g s p f.multiple i) t) (λ r. record { multiple = f.multiple; gap = r }) f.gap
 
   -- no place is lower
-  pub fit_least : (low : ℕ) (gs : List Range) → Apart low gs → NoneSkipped align skew gs → (a : ℕ) → first_fit n align skew gs ≡ some a → (p : ℕ) → Fits gs n align skew p → a ≤ p
+  pub fit_least : (low : ℕ) (gs : List Range) → Apart low gs → NoneSkipped align skew gs → (a : ℕ) → first_fit n align skew gs ≡ Some a → (p : ℕ) → Fits gs n align skew p → a ≤ p
   unfolding first_fit
   fit_least low [] o s a e p f = absurd (none_some e)
   fit_least low (g ∷ gs) o s a e p f =
       cases (allows n align skew g)
       (λ t.
-      let q : some (place_in align skew g) ≡ some a = simp t at e in
+      let q : Some (place_in align skew g) ≡ Some a = simp t at e in
       let i : place_in align skew g ≡ a = cc in
       rw (← i)
       (⊎_elim (λ i. (place_least align skew pos g).least p i.0 f.multiple)
@@ -103,19 +103,15 @@ module _ (n align skew : ℕ) (pos : 0 < align) where
       (λ t. fit_least (suc (g.offset + g.len)) gs o.2 s.1 a (simp t at e) p (not_first g gs s.0 t p f))
 
   -- there is none where there is no answer
-  pub fit_none : (gs : List Range) → NoneSkipped align skew gs → first_fit n align skew gs ≡ none → (p : ℕ) → Fits gs n align skew p → ⊥
+  pub fit_none : (gs : List Range) → NoneSkipped align skew gs → first_fit n align skew gs ≡ None → (p : ℕ) → Fits gs n align skew p → ⊥
   unfolding first_fit
   fit_none [] s e p f = f.gap
   fit_none (g ∷ gs) s e p f =
       cases (allows n align skew g)
-      (λ t. let q : some (place_in align skew g) ≡ none = simp t at e in none_some (sym q))
+      (λ t. let q : Some (place_in align skew g) ≡ None = simp t at e in none_some (sym q))
       (λ t. fit_none gs s.1 (simp t at e) p (not_first g gs s.0 t p f))
 
 -- ---- by free bytes
-
-by_answer : {P : Type 0} (o : Option ℕ) → ((a : ℕ) → o ≡ some a → P) → (o ≡ none → P) → P
-by_answer none f g = g refl
-by_answer (some a) f g = f a refl
 
 -- The n bytes from p on lie in [table end, length) and no range has one of them; p + skew is a multiple of align.
 pub record FreeSpan (te len : ℕ) (rs : List Range) (n align skew p : ℕ) : Type 0 where
@@ -154,24 +150,24 @@ module _ (te len : ℕ) (rs : List Range) (small : len ≤ top) (n align skew : 
 
   module _ (pos : 0 < align) where
     -- every answer is a free span, whatever the sums
-    pub fit_free : 0 < n → (a : ℕ) → first_fit n align skew gaps ≡ some a → FreeSpan te len rs n align skew a
+    pub fit_free : 0 < n → (a : ℕ) → first_fit n align skew gaps ≡ Some a → FreeSpan te len rs n align skew a
     fit_free z a e = fits_free z a (fit_found n align skew pos gaps a e)
 
     -- so none where there is no free span
-    pub no_span : 0 < n → ((p : ℕ) → FreeSpan te len rs n align skew p → ⊥) → first_fit n align skew gaps ≡ none
+    pub no_span : 0 < n → ((p : ℕ) → FreeSpan te len rs n align skew p → ⊥) → first_fit n align skew gaps ≡ None
     no_span z f = by_answer (first_fit n align skew gaps) (λ a e. absurd (f a (fit_free z a e))) (λ e. e)
 
     module _ (sums : NoneSkipped align skew gaps) where
       -- the least free span of all, lowest address first
-      pub first-fit : 0 < n → (a : ℕ) → first_fit n align skew gaps ≡ some a → (p : ℕ) → FreeSpan te len rs n align skew p → a ≤ p
+      pub first-fit : 0 < n → (a : ℕ) → first_fit n align skew gaps ≡ Some a → (p : ℕ) → FreeSpan te len rs n align skew p → a ≤ p
       first-fit z a e p s = fit_least n align skew pos te gaps (gaps_apart te len rs small) sums a e p (free_fits z p s)
 
       -- none only where there is none
-      pub no_fit : 0 < n → first_fit n align skew gaps ≡ none → (p : ℕ) → FreeSpan te len rs n align skew p → ⊥
+      pub no_fit : 0 < n → first_fit n align skew gaps ≡ None → (p : ℕ) → FreeSpan te len rs n align skew p → ⊥
       no_fit z e p s = fit_none n align skew pos gaps sums e p (free_fits z p s)
 
       -- of any length, 0 too: the least place in a gap, its end included
-      pub first_place : (a : ℕ) → first_fit n align skew gaps ≡ some a → (p : ℕ) → Fits gaps n align skew p → a ≤ p
+      pub first_place : (a : ℕ) → first_fit n align skew gaps ≡ Some a → (p : ℕ) → Fits gaps n align skew p → a ≤ p
       first_place a e p f = fit_least n align skew pos te gaps (gaps_apart te len rs small) sums a e p f
 
 -- ---- at one stroke, where no sum passes 2^64 - 1: the least free span of all, and none exactly where there is none
@@ -181,23 +177,23 @@ pub record LeastSpan (te len : ℕ) (rs : List Range) (n align skew a : ℕ) : T
   pub least : (p : ℕ) → FreeSpan te len rs n align skew p → a ≤ p
 
 pub record Lowest (te len : ℕ) (rs : List Range) (n align skew : ℕ) (o : Option ℕ) : Type 0 where
-  pub is_some : (a : ℕ) → o ≡ some a → LeastSpan te len rs n align skew a
-  pub some_is : (a : ℕ) → LeastSpan te len rs n align skew a → o ≡ some a
-  pub is_none : o ≡ none → (p : ℕ) → FreeSpan te len rs n align skew p → ⊥
-  pub none_is : ((p : ℕ) → FreeSpan te len rs n align skew p → ⊥) → o ≡ none
+  pub is_some : (a : ℕ) → o ≡ Some a → LeastSpan te len rs n align skew a
+  pub some_is : (a : ℕ) → LeastSpan te len rs n align skew a → o ≡ Some a
+  pub is_none : o ≡ None → (p : ℕ) → FreeSpan te len rs n align skew p → ⊥
+  pub none_is : ((p : ℕ) → FreeSpan te len rs n align skew p → ⊥) → o ≡ None
 
 pub fit_lowest : (te len : ℕ) (rs : List Range) (n align skew : ℕ) → 0 < n → 0 < align → len + skew + (align - 1) ≤ top
     → Lowest te len rs n align skew (first_fit n align skew (gaps_of te len rs))
 fit_lowest te len rs n align skew z pos h =
     let small : len ≤ top = omega arith in
     let sums = sums_below te len rs small n align skew h in
-    let least : (a : ℕ) → first_fit n align skew (gaps_of te len rs) ≡ some a → LeastSpan te len rs n align skew a = λ a e.
+    let least : (a : ℕ) → first_fit n align skew (gaps_of te len rs) ≡ Some a → LeastSpan te len rs n align skew a = λ a e.
     record { span = fit_free te len rs small n align skew pos z a e; least = first-fit te len rs small n align skew pos sums z a e } in
     record {
       is_some = least;
       some_is = λ a s.
           by_answer (first_fit n align skew (gaps_of te len rs))
-          (λ b e. let l = least b e in e ∙ ap some (le_antisymm (l.least a s.span) (s.least b l.span)))
+          (λ b e. let l = least b e in e ∙ ap Some (le_antisymm (l.least a s.span) (s.least b l.span)))
           (λ e. absurd (no_fit te len rs small n align skew pos sums z e a s.span));
       is_none = no_fit te len rs small n align skew pos sums z;
       none_is = no_span te len rs small n align skew pos z;

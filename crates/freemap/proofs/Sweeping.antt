@@ -1,22 +1,22 @@
 -- One pass over the ranges in order gives the gaps and tail.
-use Rattle.std.proofs.Common.{◌≡◌, ℕ, ◌+◌, ◌-◌, ◌*◌, ◌/◌, ◌<◌, ◌≤◌, min, max, Bool, true, false, cond, not, eqb, ◌⊎◌, List, [], ◌∷◌, ◌++◌, length, get_or, drop, set, sym, refl, ap, ◌∙◌, inl, inr, ⊎_elim, append_assoc, append-nil, arith, length-append, drop_of_length-le, le-ltb, lt-ltb, eq-eqb, ne_eqb}
+use Rattle.std.proofs.Common.{◌≡◌, ℕ, ◌+◌, ◌-◌, ◌*◌, ◌/◌, ◌<◌, ◌≤◌, min, max, Bool, true, false, cond, not, eqb, ◌⊎◌, List, [], ◌∷◌, ◌++◌, length, get_or, drop, set, sym, refl, ap, ◌∙◌, inl, inr, ⊎_elim, append_assoc, append-nil, arith, length-append, drop_of_length-le, le-ltb, lt-ltb, eq-eqb, ne_eqb, Ok, Err, drop-cons, suc}
 use mathlib.Core.Bool.{or-true}
 use Rattle.freemap.specs.Gaps.{complement_fails, Complemented, covered, free, maximal, gaps_of, tail_of}
 use Rattle.freemap.specs.Inner.{gap_to, swept, Noted, Swept}
-use Rattle.freemap.specs.declared.Complement.TheVariants.{Map, Refused}
+use Rattle.numbers.specs.declared.refusal.Refusal.TheVariants.{Lists}
 use Rattle.freemap.specs.declared.FreeMap.{FreeMap}
 use Rattle.numbers.specs.Lists.{written, All, any}
 use Rattle.numbers.specs.Order.{InOrder, precedes}
 use Rattle.numbers.specs.Pairs.{is_odd, pairs, flat}
-use Rattle.numbers.specs.Range.{Range, range, end_of, has}
-use Rattle.numbers.specs.Refusals.{accepted, answer, refuse}
+use Rattle.numbers.specs.Range.{Range, range, blank, end_of, has}
+use Rattle.numbers.specs.Refusals.{Answer, accepted, answer, refuse}
 use Rattle.numbers.specs.Sums.{top}
 use Rattle.sort.specs.Sort.{Sorted, sorted, insert, Ascending}
 use Rattle.freemap.proofs.Maximal.{max_skip, max_take, max_same}
 use Rattle.numbers.proofs.Cases.{cases, by_eq, by_lt}
 use Rattle.numbers.proofs.Lists.{written_length, all_imp, of_none}
 use Rattle.numbers.proofs.Order.{in_offset}
-use Rattle.numbers.proofs.Pairs.{length_pairs, pair_in, pair_written, length_flat, same_pairs, pair_next}
+use Rattle.numbers.proofs.Pairs.{length_pairs, pair_in, pair_written, length_flat, same_pairs}
 use Rattle.numbers.proofs.Ranges.{none_has, has_false, true_has}
 use Rattle.sort.proofs.Laws.{sorted_ascending, sorted_pairs, test_sorted}
 
@@ -157,17 +157,17 @@ tail_sorted a (x ∷ xs) = omega (arith, tail_insert a x (sorted xs), tail_sorte
 
 -- ---- the pass: count gaps are written, and the ranges from i on are left, from the byte a on
 
-pub record Sweeping (te len : ℕ) (rs gs₀ gs : List ℕ) (a count i : ℕ) : Type 0 where
-  pub room : length (pairs rs) < length (pairs gs₀)
-  pub below : i ≤ length (pairs rs)
+pub record Sweeping (te len : ℕ) (rs : List Range) (gs₀ gs : List ℕ) (a count i : ℕ) : Type 0 where
+  pub room : length rs < length (pairs gs₀)
+  pub below : i ≤ length rs
   pub done : List Range
   pub many : length done ≡ count
   pub most : count ≤ i
-  pub left : swept len te (pairs rs) ≡ done ++ swept len a (drop i (pairs rs))
-  pub tail : tail_of te (pairs rs) ≡ tail_of a (drop i (pairs rs))
+  pub left : swept len te rs ≡ done ++ swept len a (drop i rs)
+  pub tail : tail_of te rs ≡ tail_of a (drop i rs)
   pub slots : gs ≡ written (flat done) gs₀
 
-pub sweep_begins : (te len : ℕ) (rs gs : List ℕ) → length (pairs rs) < length (pairs gs) → Sweeping te len rs gs gs te 0 0
+pub sweep_begins : (te len : ℕ) (rs : List Range) (gs : List ℕ) → length rs < length (pairs gs) → Sweeping te len rs gs gs te 0 0
 unfolding flat
 sweep_begins te len rs gs h =
     record { room = h; below = omega arith; done = []; many = refl; most = omega arith; left = refl; tail = refl; slots = refl }
@@ -182,7 +182,7 @@ noted_slots done gs₀ gs gs' k a b n e h w t =
     (λ l. simp (lt-ltb _ _ l) ((simp (lt-ltb _ _ l) at t.slots) ∙ ap (λ (s : List ℕ). set (set s (2 * k) a) (2 * k + 1) (b - a)) w ∙ pair_written done gs₀ k a (b - a) e (pair_in gs₀ k h)))
     (λ l. simp (le-ltb _ _ l, append-nil) ((simp (le-ltb _ _ l) at t.slots) ∙ w))
 
-module _ {te len : ℕ} {rs gs₀ gs : List ℕ} {a count i : ℕ} (g : Sweeping te len rs gs₀ gs a count i) where
+module _ {te len : ℕ} {rs : List Range} {gs₀ gs : List ℕ} {a count i : ℕ} (g : Sweeping te len rs gs₀ gs a count i) where
   room_for : count < length (pairs gs₀)
   room_for = let r = g.room in let b = g.below in let m = g.most in omega arith
 
@@ -196,49 +196,47 @@ module _ {te len : ℕ} {rs gs₀ gs : List ℕ} {a count i : ℕ} (g : Sweeping
   pub sweep_room : count < length (pairs gs)
   sweep_room = let e = same_pairs gs gs₀ sweep_length in let h = room_for in omega arith
 
-  module _ (h : i < length (pairs rs)) where
-    abbrev next : Range
-    next = range (get_or rs (2 * i) 0) (get_or rs (2 * i + 1) 0)
+  module _ {o n : ℕ} (h : i < length rs) (x : get_or rs i blank ≡ range o n) where
+    next : drop i rs ≡ range o n ∷ drop (i + 1) rs
+    next = let e : suc i ≡ i + 1 = omega arith in drop-cons rs i blank h ∙ rw (x, e)
 
     -- an empty range
-    pub sweep_empty : get_or rs (2 * i + 1) 0 ≡ 0 → Sweeping te len rs gs₀ gs a count (i + 1)
+    pub sweep_empty : n ≡ 0 → Sweeping te len rs gs₀ gs a count (i + 1)
     unfolding swept
     sweep_empty z =
-        let n = pair_next rs i h in
         record {
           room = g.room;
           below = omega arith;
           done = g.done;
           many = g.many;
           most = let m = g.most in omega arith;
-          left = g.left ∙ rw n (simp (eq-eqb _ _ z));
-          tail = g.tail ∙ ap (tail_of a) n ∙ tail_empty a next (drop (i + 1) (pairs rs)) z;
+          left = g.left ∙ rw next (simp (eq-eqb _ _ z));
+          tail = g.tail ∙ ap (tail_of a) next ∙ tail_empty a (range o n) (drop (i + 1) rs) z;
           slots = g.slots;
         }
 
     -- another one
-    pub sweep_on : (get_or rs (2 * i + 1) 0 ≡ 0 → ⊥) → (gs' : List ℕ) (n : ℕ) → Noted gs gs' count a (min (get_or rs (2 * i) 0) len) n → Sweeping te len rs gs₀ gs' (max a (end_of next)) n (i + 1)
+    pub sweep_on : (n ≡ 0 → ⊥) → {gs' : List ℕ} {k : ℕ} → Noted gs gs' count a (min o len) k → Sweeping te len rs gs₀ gs' (max a (end_of (range o n))) k (i + 1)
     unfolding swept
-    sweep_on d gs' n t =
-        let e = pair_next rs i h in
-        let b = min (get_or rs (2 * i) 0) len in
+    sweep_on d {gs'} {k} t =
+        let b = min o len in
         record {
           room = g.room;
           below = omega arith;
           done = g.done ++ gap_to a b;
           many = length-append g.done (gap_to a b) ∙ omega (arith, g.many, t.count);
           most = let m = g.most in let l = gap_one a b in omega (arith, t.count);
-          left = g.left ∙ rw e (simp (ne_eqb _ _ d, append_assoc));
-          tail = g.tail ∙ ap (tail_of a) e ∙ tail_next a next (drop (i + 1) (pairs rs)) d;
-          slots = noted_slots g.done gs₀ gs gs' count a b n g.many room_for g.slots t;
+          left = g.left ∙ rw next (simp (ne_eqb _ _ d, append_assoc));
+          tail = g.tail ∙ ap (tail_of a) next ∙ tail_next a (range o n) (drop (i + 1) rs) d;
+          slots = noted_slots g.done gs₀ gs gs' count a b k g.many room_for g.slots t;
         }
 
   -- the gap behind all ranges
-  pub sweep_ends : length (pairs rs) ≤ i → (gs' : List ℕ) (n : ℕ) → Noted gs gs' count a len n → Swept te len (pairs rs) gs₀ gs' (record { count = n; tail = a })
+  pub sweep_ends : length rs ≤ i → {gs' : List ℕ} {n : ℕ} → Noted gs gs' count a len n → Swept te len rs gs₀ gs' (record { count = n; tail = a })
   unfolding swept tail_of
-  sweep_ends h gs' n t =
-      let z = drop_of_length-le (pairs rs) {i = i} h in
-      let w : swept len te (pairs rs) ≡ g.done ++ gap_to a len = g.left ∙ rw z in
+  sweep_ends h {gs'} {n} t =
+      let z = drop_of_length-le rs {i = i} h in
+      let w : swept len te rs ≡ g.done ++ gap_to a len = g.left ∙ rw z in
       record {
         count = t.count ∙ omega (arith, g.many, length-append g.done (gap_to a len), ap length w);
         tail = sym (g.tail ∙ ap (tail_of a) z);
@@ -275,11 +273,11 @@ module _ (rs gs : List ℕ) where
       let t : length (pairs rs) + 1 ≤ length (pairs gs) = omega arith in
       simp (e, le-ltb _ _ t)
 
-  pub complement_refused : (te len : ℕ) → complement_fails rs gs ≡ true → Complemented te len rs rs gs gs (Refused 1)
+  pub complement_refused : (te len : ℕ) → complement_fails rs gs ≡ true → Complemented te len rs rs gs gs (Err Lists)
   unfolding answer refuse
   complement_refused te len e = record { answer = simp e; ranges = simp e; slots = simp e }
 
-  pub complement_done : (te len : ℕ) (rs' gs' : List ℕ) (r : ℕ) (m : FreeMap) → len ≤ top → is_odd rs ≡ false → length rs / 2 < length gs / 2 → Sorted rs rs' r → Swept te len (pairs rs') gs gs' m → Complemented te len rs rs' gs gs' (Map m)
+  pub complement_done : (te len : ℕ) (rs' gs' : List ℕ) (r : Answer (Unit {0})) (m : FreeMap) → len ≤ top → is_odd rs ≡ false → length rs / 2 < length gs / 2 → Sorted rs rs' r → Swept te len (pairs rs') gs gs' m → Complemented te len rs rs' gs gs' (Ok m)
   unfolding answer refuse
   complement_done te len rs' gs' r m h o l s w =
       let f = passes_both o l in

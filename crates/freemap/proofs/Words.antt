@@ -1,10 +1,9 @@
 -- What document 01 says of gaps, tail and free bytes, in words: of bytes, and of the list that `complement` leaves.
-use Rattle.std.proofs.Common.{◌≡◌, ℕ, zero, suc, ◌+◌, ◌-◌, ◌<◌, ◌≤◌, max, Bool, true, false, not, ◌⊎◌, List, [], ◌∷◌, ◌++◌, length, get_or, sym, refl, ap, ◌∙◌, inl, inr, ⊎_elim, le_antisymm, arith, le-ltb, eq-eqb, ne_eqb}
+use Rattle.std.proofs.Common.{◌≡◌, ℕ, zero, suc, ◌+◌, ◌-◌, ◌<◌, ◌≤◌, max, Bool, true, false, not, ◌⊎◌, List, [], ◌∷◌, ◌++◌, length, get_or, sym, refl, ap, ◌∙◌, inl, inr, ⊎_elim, le_antisymm, arith, le-ltb, eq-eqb, ne_eqb, Ok}
 use borrow.Author.Tests.{not-true}
 use Rattle.freemap.specs.Bytes.{counted, free_of}
 use Rattle.freemap.specs.Fit.{first_fit, fit_refusal, fit_of}
 use Rattle.freemap.specs.Gaps.{Covered, covered, free, maximal, gaps_of, tail_of, free_map_of, complement_fails, Complemented, gaps_in, too_few}
-use Rattle.freemap.specs.declared.Complement.TheVariants.{Map}
 use Rattle.freemap.specs.declared.FreeMap.{FreeMap}
 use Rattle.numbers.specs.Lists.{All, Any, written}
 use Rattle.numbers.specs.Pairs.{pairs, flat}
@@ -199,7 +198,7 @@ pub record ReadsAs (te len : ℕ) (rs : List Range) (m : FreeMap) (gs : List ℕ
   pub enough : too_few m gs ≡ false
 
 -- what it hands back stands for those of its ranges
-pub gaps_read : (te len : ℕ) (rs₀ rs gs₀ gs : List ℕ) (m : FreeMap) → Complemented te len rs₀ rs gs₀ gs (Map m) → ReadsAs te len (pairs rs₀) m gs
+pub gaps_read : (te len : ℕ) (rs₀ rs gs₀ gs : List ℕ) (m : FreeMap) → Complemented te len rs₀ rs gs₀ gs (Ok m) → ReadsAs te len (pairs rs₀) m gs
 unfolding too_few
 gaps_read te len rs₀ rs gs₀ gs m c =
     let a = accepted_is _ _ m (sym c.answer) in

@@ -1,17 +1,10 @@
 -- Document 01, "`free_bytes` adds the gaps' lengths", and how bytes are counted.
 use Rattle.std.specs.Prelude.{ℕ, zero, suc, Bool, cond, List}
 use Rattle.freemap.specs.Gaps.{gaps_in, too_few}
-use Rattle.freemap.specs.declared.FreeBytes.{FreeBytes}
-use Rattle.freemap.specs.declared.FreeBytes.TheVariants.{Bytes, Refused}
 use Rattle.freemap.specs.declared.FreeMap.{FreeMap}
 use Rattle.numbers.specs.Range.{total}
-use Rattle.numbers.specs.Refusals.{Answer, accepted, refused, answer, refuse}
+use Rattle.numbers.specs.Refusals.{Answer, answer, refuse}
 use Rattle.numbers.specs.Sums.{stop}
-
--- The answer as a value or document 01's number.
-abbrev pub bytes_of : FreeBytes → Answer ℕ
-bytes_of (Bytes n) = accepted n
-bytes_of (Refused n) = refused n
 
 -- What `free_bytes` answers, of any record and list. Of `complement`'s gaps the sum never stops (`free_whole` in proofs/Words).
 abbrev pub free_of : FreeMap → List ℕ → Answer ℕ

@@ -1,14 +1,11 @@
 -- Document 01, "`first_fit`": the place of some bytes in the first gap that allows it.
-use Rattle.std.specs.Prelude.{ℕ, ◌+◌, ◌-◌, Bool, cond, not, ◌&&◌, List, [], ◌∷◌, nat_le, nat_lt}
-use Rattle.std.proofs.Math.Option.{Option, none, some}
+use Rattle.std.specs.Prelude.{ℕ, ◌+◌, ◌-◌, Bool, cond, not, ◌&&◌, List, [], ◌∷◌, nat_le, nat_lt, Option, None, Some}
 use Rattle.align.specs.Align.{up_to}
 use Rattle.freemap.specs.Gaps.{gaps_in, too_few}
-use Rattle.freemap.specs.declared.Fit.{Fit}
 use Rattle.freemap.specs.declared.FreeMap.{FreeMap}
-use Rattle.freemap.specs.declared.Fit.TheVariants as fit
 use Rattle.numbers.specs.Powers.{is_power_of_two}
 use Rattle.numbers.specs.Range.{Range, end_of}
-use Rattle.numbers.specs.Refusals.{Answer, accepted, refused, answer, refuse, first}
+use Rattle.numbers.specs.Refusals.{Answer, answer, refuse, first}
 use Rattle.numbers.specs.Sums.{top}
 
 -- "the least at >= start with at + skew a multiple of align"; `place_least` (proofs/Places) says that it is.
@@ -26,14 +23,8 @@ allows len align skew g = not (skipped align skew g) && nat_le (place_in align s
 -- "in the first gap that allows it"; `fit_lowest` (proofs/Places) says that it is the least free span of all, and none
 -- exactly where there is none.
 unfoldable pub first_fit : ℕ → ℕ → ℕ → List Range → Option ℕ
-first_fit len align skew [] = none
-first_fit len align skew (g ∷ gs) = cond (allows len align skew g) (some (place_in align skew g)) (first_fit len align skew gs)
-
--- The answer as a place, or none, or document 01's number.
-abbrev pub place_of : Fit → Answer (Option ℕ)
-place_of (fit.At a) = accepted (some a)
-place_of fit.Nothing = accepted none
-place_of (fit.Refused n) = refused n
+first_fit len align skew [] = None
+first_fit len align skew (g ∷ gs) = cond (allows len align skew g) (Some (place_in align skew g)) (first_fit len align skew gs)
 
 -- 1, then 2, "a free-map call's align is no power of two".
 unfoldable pub fit_refusal : FreeMap → List ℕ → ℕ → ℕ

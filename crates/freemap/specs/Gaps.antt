@@ -1,12 +1,11 @@
 -- Document 01, "`FreeMap`": the gaps that ranges leave of a container, tail, and what `complement` does.
-use Rattle.std.specs.Prelude.{◌≡◌, ℕ, zero, suc, ◌+◌, ◌-◌, max, Bool, cond, not, ◌||◌, List, [], ◌∷◌, length, take, ◌==◌, nat_lt}
-use Rattle.freemap.specs.declared.Complement.{Complement}
-use Rattle.freemap.specs.declared.Complement.TheVariants.{Map, Refused}
+use Rattle.std.specs.Prelude.{◌≡◌, ℕ, zero, suc, ◌+◌, ◌-◌, max, Bool, cond, not, ◌||◌, List, [], ◌∷◌, length, take, Result, ◌==◌, nat_lt}
 use Rattle.freemap.specs.declared.FreeMap.{FreeMap}
 use Rattle.numbers.specs.Lists.{Any, any, list_after}
 use Rattle.numbers.specs.Pairs.{is_odd, pairs, flat}
 use Rattle.numbers.specs.Range.{Range, range, end_of, Has, has}
-use Rattle.numbers.specs.Refusals.{Answer, accepted, refused, answer, refuse}
+use Rattle.numbers.specs.Refusals.{answer, refuse, told}
+use Rattle.numbers.specs.declared.refusal.Refusal.{Refusal}
 use Rattle.sort.specs.Sort.{sorted}
 
 -- Some range of a list has the byte b.
@@ -46,18 +45,13 @@ tail_of te (r ∷ rs) = cond (r.len == 0) (tail_of te rs) (max (end_of r) (tail_
 unfoldable pub complement_fails : List ℕ → List ℕ → Bool
 complement_fails rs gs = is_odd rs || nat_lt (length (pairs gs)) (length (pairs rs) + 1)
 
--- The answer as the record handed back, or document 01's number.
-abbrev pub answer_of : Complement → Answer FreeMap
-answer_of (Map m) = accepted m
-answer_of (Refused n) = refused n
-
 -- The record of a container with ranges: how many gaps there are, and tail.
 abbrev pub free_map_of : ℕ → ℕ → List Range → FreeMap
 free_map_of te len rs = record { count = length (gaps_of te len rs); tail = tail_of te rs }
 
 -- What `complement` promises: its answer, the ranges, sorted, and every slot of the list of gaps. A refused call changes nothing.
-pub record Complemented (te len : ℕ) (rs₀ rs gs₀ gs : List ℕ) (r : Complement) : Type 0 where
-  pub answer : answer_of r ≡ answer (refuse 1 (complement_fails rs₀ gs₀)) (free_map_of te len (pairs rs₀))
+pub record Complemented (te len : ℕ) (rs₀ rs gs₀ gs : List ℕ) (r : Result FreeMap Refusal) : Type 0 where
+  pub answer : told r ≡ answer (refuse 1 (complement_fails rs₀ gs₀)) (free_map_of te len (pairs rs₀))
   pub ranges : rs ≡ cond (complement_fails rs₀ gs₀) rs₀ (flat (sorted (pairs rs₀)))
   pub slots : gs ≡ list_after (complement_fails rs₀ gs₀) (flat (gaps_of te len (pairs rs₀))) gs₀
 

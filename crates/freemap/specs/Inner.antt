@@ -1,9 +1,7 @@
 -- What the steps of the calls do; no public call promises anything by these.
 use Rattle.std.specs.Prelude.{◌≡◌, ℕ, ◌+◌, ◌-◌, ◌*◌, min, max, cond, List, [], ◌∷◌, ◌++◌, length, ◌==◌, nat_lt, slice_set}
-use Rattle.std.proofs.Math.Option.{Option, none, some}
 use Rattle.freemap.specs.Gaps.{tail_of}
 use Rattle.freemap.specs.declared.FreeMap.{FreeMap}
-use Rattle.freemap.specs.declared.search.Spot.{Spot}
 use Rattle.numbers.specs.Lists.{written}
 use Rattle.numbers.specs.Pairs.{flat}
 use Rattle.numbers.specs.Range.{Range, range, end_of}
@@ -27,7 +25,3 @@ pub record Swept (te len : ℕ) (rs : List Range) (gs₀ gs : List ℕ) (m : Fre
   pub count : m.count ≡ length (swept len te rs)
   pub tail : m.tail ≡ tail_of te rs
   pub slots : gs ≡ written (flat (swept len te rs)) gs₀
-
--- A place in one gap, if it allows it.
-abbrev pub spot_of : Spot → Option ℕ
-spot_of s = cond s.fits (some s.at) none

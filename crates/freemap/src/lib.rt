@@ -6,12 +6,14 @@ mod search;
 mod sum;
 mod sweep;
 
-ghost use Rattle.std.specs.Prelude.{◌≡◌};
-ghost use Rattle.freemap.specs.Fit.{place_of, fit_of};
-ghost use Rattle.freemap.specs.Gaps.{Complemented, too_few};
-ghost use Rattle.freemap.specs.Bytes.{bytes_of, free_of};
+ghost use Rattle.std.specs.Prelude.{◌≡◌, true, false, MatchResult};
+ghost use Rattle.freemap.specs.Bytes.{free_of};
+ghost use Rattle.freemap.specs.Fit.{fit_of};
+ghost use Rattle.freemap.specs.Gaps.{Complemented, gaps_in, too_few};
+ghost use Rattle.numbers.specs.Pairs.{ranges_in};
+ghost use Rattle.numbers.specs.Refusals.{told};
 
-use numbers::is_power_of_two;
+use numbers::{Refusal, is_power_of_two};
 use search::search;
 use sum::sum_bytes;
 use sweep::sweep;
@@ -20,32 +22,10 @@ use sweep::sweep;
 // pairs (offset, length) in rising order.
 #[derive(Clone, Copy)]
 pub struct FreeMap {
-    // How many gaps there are.
+    // How many gaps there are; the list may be longer.
     pub count: usize,
     // The greatest of table end and all ends of ranges of length above 0.
     pub tail: u64,
-}
-
-// A free map, or document 01's refusal.
-#[derive(Clone, Copy)]
-pub enum Complement {
-    Map(FreeMap),
-    Refused(u64),
-}
-
-// A place, none, or document 01's refusal.
-#[derive(Clone, Copy)]
-pub enum Fit {
-    At(u64),
-    Nothing,
-    Refused(u64),
-}
-
-// A number of bytes, or document 01's refusal.
-#[derive(Clone, Copy)]
-pub enum FreeBytes {
-    Bytes(u64),
-    Refused(u64),
 }
 
 impl FreeMap {
@@ -56,49 +36,49 @@ impl FreeMap {
         len: u64,
         allocated: &mut [u64],
         gaps: &mut [u64],
-    ) -> Complement
+    ) -> Result<FreeMap, Refusal>
         ensures { Complemented table_end len allocated.old allocated.new gaps.old gaps.new result }
     {
-        if allocated.len() % 2 != 0 {
-            return Complement::Refused(1);
+        if allocated.len() % 2 != 0 || gaps.len() / 2 <= allocated.len() / 2 {
+            return Err(Refusal::Lists);
         }
-        if gaps.len() / 2 <= allocated.len() / 2 {
-            return Complement::Refused(1);
-        }
-        sort::sort_pairs(allocated);
-        Complement::Map(sweep(table_end, len, allocated, gaps))
+        let _sorted = sort::sort_pairs(allocated);
+        Ok(sweep(table_end, len, allocated, gaps))
     }
 
-    // Whether a list of gaps has fewer places than the record counts.
-    fn too_few(self, gaps: &[u64]) -> bool
-        ensures { result ≡ too_few self gaps.now }
+    // The gaps of a list that the record counts.
+    fn gaps_in(self, gaps: &[u64]) -> Result<&[[u64; 2]], Refusal>
+        ensures { MatchResult result (λ gs. (too_few self gaps.now ≡ false) × (ranges_in gs.now ≡ gaps_in self gaps.now)) (λ e. (too_few self gaps.now ≡ true) × (e ≡ Refusal.Lists)) }
     {
-        gaps.len() / 2 < self.count
+        let (pairs, _) = gaps.as_chunks::<2>();
+        if pairs.len() < self.count {
+            return Err(Refusal::Lists);
+        }
+        Ok(&pairs[..self.count])
     }
 
     // Where len bytes fit in the first gap that allows it, at + skew a multiple of align.
-    pub fn first_fit(self, gaps: &[u64], len: u64, align: u64, skew: u64) -> Fit
-        ensures { place_of result ≡ fit_of self gaps.now len align skew }
+    pub fn first_fit(
+        self,
+        gaps: &[u64],
+        len: u64,
+        align: u64,
+        skew: u64,
+    ) -> Result<Option<u64>, Refusal>
+        ensures { told result ≡ fit_of self gaps.now len align skew }
     {
-        if self.too_few(gaps) {
-            return Fit::Refused(1);
-        }
+        let gaps = self.gaps_in(gaps)?;
         if !is_power_of_two(align) {
-            return Fit::Refused(2);
+            return Err(Refusal::Block);
         }
-        let count = self.count;
-        search(&gaps[0..2 * count], len, align - 1, skew)
+        Ok(search(gaps, len, align - 1, skew))
     }
 
     // The lengths of the gaps together.
-    pub fn free_bytes(self, gaps: &[u64]) -> FreeBytes
-        ensures { bytes_of result ≡ free_of self gaps.now }
+    pub fn free_bytes(self, gaps: &[u64]) -> Result<u64, Refusal>
+        ensures { told result ≡ free_of self gaps.now }
     {
-        if self.too_few(gaps) {
-            return FreeBytes::Refused(1);
-        }
-        let count = self.count;
-        FreeBytes::Bytes(sum_bytes(&gaps[0..2 * count]))
+        Ok(sum_bytes(self.gaps_in(gaps)?))
     }
 
     // The greatest of table end and all ends of ranges of length above 0.

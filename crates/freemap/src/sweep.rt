@@ -1,33 +1,14 @@
 // The gaps that ranges in order leave, one pass over the ranges.
-ghost use Rattle.std.specs.Prelude.{◌≡◌, ◌<◌, min, max, length};
+ghost use Rattle.std.specs.Prelude.{◌≡◌, ◌+◌, ◌*◌, ◌<◌, length};
 ghost use Rattle.numbers.specs.Pairs.{pairs};
 ghost use Rattle.freemap.specs.Inner.{Noted, Swept};
 
 use crate::FreeMap;
-use numbers::add_stop;
-
-fn lower(a: u64, b: u64) -> u64
-    ensures { result ≡ min a b }
-{
-    if a < b {
-        return a;
-    }
-    b
-}
-
-fn higher(a: u64, b: u64) -> u64
-    ensures { result ≡ max a b }
-{
-    if a < b {
-        return b;
-    }
-    a
-}
 
 // Writes the gap from start up to end behind count others, where it has a byte; answers how many
 // there are then.
 fn note(gaps: &mut [u64], count: usize, start: u64, end: u64) -> usize
-    requires { count < length (pairs gaps.old) }
+    requires { 2 * count + 1 < length gaps.old }
     ensures { Noted gaps.old gaps.new count start end result }
 {
     if start < end {
@@ -43,18 +24,15 @@ pub(crate) fn sweep(table_end: u64, len: u64, ranges: &[u64], gaps: &mut [u64]) 
     requires { length (pairs ranges.now) < length (pairs gaps.old) }
     ensures { Swept table_end len (pairs ranges.now) gaps.old gaps.new result }
 {
-    let n = ranges.len() / 2;
+    let (ranges, _) = ranges.as_chunks::<2>();
     let mut at = table_end;
     let mut count = 0;
-    let mut i = 0;
-    while i < n {
-        let offset = ranges[2 * i];
-        let bytes = ranges[2 * i + 1];
-        i += 1;
-        if bytes > 0 {
-            count = note(gaps, count, at, lower(offset, len));
-            at = higher(at, add_stop(offset, bytes));
+    for &[offset, bytes] in ranges {
+        if bytes == 0 {
+            continue;
         }
+        count = note(gaps, count, at, offset.min(len));
+        at = at.max(offset.saturating_add(bytes));
     }
     count = note(gaps, count, at, len);
     FreeMap { count, tail: at }

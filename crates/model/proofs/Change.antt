@@ -1,4 +1,5 @@
 -- Accepted calls on a region that is there, and on a tag's cap, keep a world sound.
+use Rattle.std.specs.Prelude.{Option}
 use Prim.Native.Nat.{ℕ, ◌+◌, ◌*◌, ◌/◌, ◌%◌, ◌^◌, ◌≤◌, ◌<◌, min, max}
 use mathlib.Core.Bool.{false}
 use mathlib.Core.List.{List, [], ◌∷◌, ◌++◌}
@@ -19,7 +20,6 @@ use Rattle.numbers.specs.Keyed.{HasKey}
 use Rattle.numbers.specs.Lists.{Distinct}
 use Rattle.numbers.specs.Range.{Range, range, Disjoint, Within}
 use Rattle.numbers.specs.Refusals.{first}
-use Rattle.tagspace.specs.declared.Cap.{Cap}
 use Rattle.model.proofs.Regions.{known_true, split, all_on, all_without, map_on, distinct_without, length_on, length_without, held_front, held_behind, held_parts, held_split, held_grown, held_dropped, held_kept}
 use Rattle.model.proofs.Rows.{put_few, put_ordered, put_tagged}
 use Rattle.model.proofs.Sound.{Regular, Sound}
@@ -203,7 +203,7 @@ dropped_sound w s id k =
 
 -- ---- cap
 
-pub capped_sound : (w : World) → Sound w → (tag : ℕ) (limit : Cap) → tag_full w tag ≡ false → Sound (capped w tag limit)
+pub capped_sound : (w : World) → Sound w → (tag : ℕ) (limit : Option ℕ) → tag_full w tag ≡ false → Sound (capped w tag limit)
 capped_sound w s tag limit f =
     let t : TagRow = tag_row tag limit in
     record {

@@ -2,7 +2,7 @@
 use Prim.Native.Nat.{ℕ, ◌<◌}
 use mathlib.Core.List.{List, [], ◌∷◌, ◌++◌}
 use mathlib.Core.Logic.{inr}
-use mathlib.Core.Option.{none, some}
+use Rattle.std.specs.Prelude.{None, Some}
 use mathlib.Core.Path.{◌≡◌, refl, ap, sym, subst, ◌∙◌}
 use native.Mathlib.Omega.{arith}
 use Rattle.footprint.specs.declared.Limits.{Limits}
@@ -23,11 +23,11 @@ use Rattle.model.proofs.Located.{region_regular, region_ends, located_at}
 use Rattle.model.proofs.Opening.{opened_sound}
 use Rattle.model.proofs.Regions.{known_true, split, held_front, held_behind, held_split}
 use Rattle.model.proofs.Sound.{Sound}
-use Rattle.model.proofs.Spans.{by_search, block_some, none_found, least_found, none_free}
+use Rattle.model.proofs.Spans.{block_some, none_found, least_found, none_free}
 use Rattle.model.proofs.Stays.{byte_stays}
 use Rattle.model.proofs.Steps.{after_sound, room_left}
 use Rattle.numbers.proofs.Answers.{answer_number, answer_value, refused_is}
-use Rattle.numbers.proofs.Cases.{by_eq}
+use Rattle.numbers.proofs.Cases.{by_answer, by_eq}
 use Rattle.numbers.proofs.Disjoint.{all_shared, disjoint_left, disjoint_right, disjoint_between}
 use Rattle.numbers.proofs.Keyed.{has_later, keyed_here, keyed_later}
 use Rattle.numbers.proofs.Lists.{any_left, any_right}
@@ -107,11 +107,11 @@ module _ (w : World) (s : Sound w) where
   -- of any call that tests room last, and whose byte is the lowest free span
   module _ (tests : List ℕ) (n : ℕ) (c : Call) (pos : 0 < n) (low : first tests < 22)
       (number : refusal_to w c ≡ first (tests ++ (refuse 22 (room_fails w n) ∷ []))) (byte : byte_for w c ≡ least_free w n) where
-    no_room : first tests ≡ 0 → least_free w n ≡ none → refusal_to w c ≡ 22
+    no_room : first tests ≡ 0 → least_free w n ≡ None → refusal_to w c ≡ 22
     unfolding room_fails first refuse
     no_room z e = number ∙ first_go tests _ z ∙ rw e
 
-    with_place : (a : ℕ) → least_free w n ≡ some a → refusal_to w c ≡ first tests
+    with_place : (a : ℕ) → least_free w n ≡ Some a → refusal_to w c ≡ first tests
     with_place a e = number ∙ room_left w tests n a e
 
     room : Room w tests n c
@@ -119,11 +119,11 @@ module _ (w : World) (s : Sound w) where
         record {
           full = λ z h. let e = no_room z (none_found w n h) in rw e (answer_number 22 _ (λ q. omega arith));
           only_full = λ e.
-              by_search (least_free w n)
+              by_answer (least_free w n)
               (λ a q. let r = (refused_is _ _ 22 e).0 in absurd (omega (arith, r, with_place a q, low)))
               (λ q. none_free w n pos q);
           placed = λ z p f.
-              by_search (least_free w n)
+              by_answer (least_free w n)
               (λ a q. (a, least_found w n a q, answer_value _ _ (with_place a q ∙ z) ∙ ap accepted (byte ∙ q)))
               (λ q. absurd (none_free w n pos q p f));
         }

@@ -1,7 +1,7 @@
 -- 01's listing, each answer line from the definitions.
 use Prim.Native.Nat.{ℕ, ◌+◌, ◌-◌}
 use mathlib.Core.List.{List, [], ◌∷◌}
-use mathlib.Core.Option.{Option, none, some}
+use Rattle.std.specs.Prelude.{Option, None, Some}
 use mathlib.Core.Path.{◌≡◌, refl, subst}
 use native.Mathlib.Omega.{arith}
 use Rattle.align.specs.Align.{up_to}
@@ -63,36 +63,36 @@ opens = refl
 s0 : Sound w0
 s0 = opened_sound opening opens
 
-place0 : least_free w0 8192 ≡ some 8192
+place0 : least_free w0 8192 ≡ Some 8192
 unfolding each_record footprints sorted insert precedes swept first_fit allows skipped place_in up_to end_of
 place0 = least_swept w0 s0 8192 (omega arith)
 
-step1 : (answer_to w0 (create 1 7 main_a) ≡ accepted (some 8192)) × (next w0 (create 1 7 main_a) ≡ w1)
+step1 : (answer_to w0 (create 1 7 main_a) ≡ accepted (Some 8192)) × (next w0 (create 1 7 main_a) ≡ w1)
 unfolding first refuse known has_key named tag_full cap_fails has_row rows_for each_record any highest fits cap_allows keyed
 step1 = created_next w0 1 7 main_a 8192 refl place0
 
 s1 : Sound w1
 s1 = subst Sound step1.1 (next_sound w0 s0 (create 1 7 main_a))
 
-place1 : least_free w1 65536 ≡ some 16384
+place1 : least_free w1 65536 ≡ Some 16384
 unfolding each_record footprints sorted insert precedes swept first_fit allows skipped place_in up_to end_of
 place1 = least_swept w1 s1 65536 (omega arith)
 
-step2 : (answer_to w1 (grow 1) ≡ accepted (some 16384)) × (next w1 (grow 1) ≡ w2)
+step2 : (answer_to w1 (grow 1) ≡ accepted (Some 16384)) × (next w1 (grow 1) ≡ w2)
 unfolding first refuse known has_key cap_fails rows_for each_record any fits cap_allows keyed put_keyed kind_code step keep sum
 step2 = grown_next w1 1 16384 refl place1
 
 s2 : Sound w2
 s2 = subst Sound step2.1 (next_sound w1 s1 (grow 1))
 
-step3 : (answer_to w2 (publish 1 65536) ≡ accepted none) × (next w2 (publish 1 65536) ≡ w3)
+step3 : (answer_to w2 (publish 1 65536) ≡ accepted None) × (next w2 (publish 1 65536) ≡ w3)
 unfolding answer refusal_to byte_for next accept first refuse known has_key each_record any on_region keyed step sum
 step3 = (refl, refl)
 
 s3 : Sound w3
 s3 = subst Sound step3.1 (next_sound w2 s2 (publish 1 65536))
 
-step4 : (answer_to w3 (locate 1 65535 1) ≡ accepted (some 81919)) × (next w3 (locate 1 65535 1) ≡ w3)
+step4 : (answer_to w3 (locate 1 65535 1) ≡ accepted (Some 81919)) × (next w3 (locate 1 65535 1) ≡ w3)
 unfolding answer refusal_to byte_for next accept first refuse known has_key each_record any on_region keyed step not_empty joined_to joined runs_from last_at
 step4 = (refl, refl)
 

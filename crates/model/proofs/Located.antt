@@ -2,7 +2,7 @@
 use Prim.Native.Nat.{ℕ, suc, ◌+◌, ◌≤◌, ◌<◌}
 use mathlib.Core.Bool.{true}
 use mathlib.Core.List.{List}
-use mathlib.Core.Option.{some}
+use Rattle.std.specs.Prelude.{Some}
 use mathlib.Core.Path.{◌≡◌, ap, sym, ◌∙◌}
 use native.Mathlib.Omega.{arith}
 use borrow.Author.Tests.{lt-ltb, le-ltb}
@@ -85,7 +85,7 @@ module _ (w : World) (s : Sound w) (id : ℕ) (k : known w id ≡ true) (p n : �
     unfolding refusal_to first refuse
     past_run m = let e : refusal_to w (locate id p n) ≡ 24 = simp (k, le-ltb _ _ l, lt-ltb _ _ m) in rw e (answer_number 24 _ (λ z. omega arith))
 
-    in_run : p + n ≤ reach → answer_to w (locate id p n) ≡ accepted (some (run_byte (run_at r p) p))
+    in_run : p + n ≤ reach → answer_to w (locate id p n) ≡ accepted (Some (run_byte (run_at r p) p))
     unfolding refusal_to first refuse byte_for
     in_run m = let e : refusal_to w (locate id p n) ≡ 0 = simp (k, le-ltb _ _ l, le-ltb _ _ m) in answer_value _ _ e
 
@@ -109,13 +109,13 @@ module _ (w : World) (s : Sound w) (id : ℕ) (k : known w id ≡ true) (p n : �
         (λ i. let u = reaches xs (region_ends w s id h) whole p (omega (arith, size)) in absurd (omega (arith, size))))
         (λ m. absurd (not_both _ 24 (sym (in_run m) ∙ e)))
 
-    pub answered : (Jump xs p n → ⊥) → answer_to w (locate id p n) ≡ accepted (some (run_byte (run_at r p) p))
+    pub answered : (Jump xs p n → ⊥) → answer_to w (locate id p n) ≡ accepted (Some (run_byte (run_at r p) p))
     answered d = by_lt reach (p + n) (λ m. absurd (d (refused_jump (past_run m)))) in_run
 
-    pub located_at : p < total xs → (Jump xs p n → ⊥) → answer_to w (locate id p n) ≡ accepted (some (byte_of xs p))
-    located_at i d = answered d ∙ ap (λ (b : ℕ). accepted (some b)) (run-byte xs whole p i)
+    pub located_at : p < total xs → (Jump xs p n → ⊥) → answer_to w (locate id p n) ≡ accepted (Some (byte_of xs p))
+    located_at i d = answered d ∙ ap (λ (b : ℕ). accepted (Some b)) (run-byte xs whole p i)
 
 -- "`locate` of length 0 at the data's end is answered", and so is every other of length 0
 pub none_answered : (w : World) → Sound w → (id : ℕ) → known w id ≡ true → (p : ℕ) → p ≤ (region_in w id).published
-    → answer_to w (locate id p 0) ≡ accepted (some (run_byte (run_at (region_in w id) p) p))
+    → answer_to w (locate id p 0) ≡ accepted (Some (run_byte (run_at (region_in w id) p) p))
 none_answered w s id k p l = answered w s id k p 0 (omega arith) (λ j. omega (arith, j.from, j.upto))

@@ -1,4 +1,5 @@
 -- The rows of tags: one more, or one changed.
+use Rattle.std.specs.Prelude.{None}
 use Prim.Native.Nat.{ℕ, ◌≤◌, ◌<◌}
 use mathlib.Core.Bool.{true, false}
 use mathlib.Core.List.{List}
@@ -16,7 +17,6 @@ use Rattle.model.proofs.Sound.{Sound}
 use Rattle.numbers.proofs.Cases.{cases}
 use Rattle.numbers.proofs.Keyed.{key_true, true_key, keyed_any_key, put_order, own_has, other_has, put_least, length_kept}
 use Rattle.numbers.proofs.Lists.{all_imp}
-use Rattle.tagspace.specs.declared.Cap.TheVariants as cap_is
 
 -- the test says whether a tag has a row
 module _ (w : World) (tag : ℕ) where
@@ -31,7 +31,7 @@ module _ (w : World) (tag : ℕ) where
 -- the rows with that of a tag, where it stands or new
 module _ (t : ℕ) (rows : List TagRow) where
   pub row_tag : (row_of t rows).tag ≡ t
-  row_tag = keyed_any_key tag_of (tag_row t cap_is.Nothing) t refl rows
+  row_tag = keyed_any_key tag_of (tag_row t None) t refl rows
 
   pub with_order : InKeyOrder tag_of rows → InKeyOrder tag_of (with_tag t rows)
   with_order o = put_order tag_of (row_of t rows) rows o

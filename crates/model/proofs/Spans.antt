@@ -1,7 +1,7 @@
 -- Free spans: the test and the search say what they are to say, and the free map's first fit is the same.
 use Prim.Native.Nat.{ℕ, zero, suc, ◌+◌, ◌*◌, ◌/◌, ◌%◌, ◌≤◌, ◌<◌}
 use mathlib.Core.Bool.{Bool, true, false}
-use mathlib.Core.Option.{Option, none, some}
+use Rattle.std.specs.Prelude.{Option, None, Some}
 use mathlib.Core.Path.{◌≡◌, refl, ap, sym, ◌∙◌}
 use native.Mathlib.Nat.{le_antisymm, div-add-mod', mul-mod_left}
 use native.Mathlib.Omega.{arith}
@@ -19,7 +19,7 @@ use Rattle.sort.specs.Sort.{sorted}
 use Rattle.freemap.proofs.Places.{fit_lowest, meets_none_span, span_meets_none}
 use Rattle.freemap.proofs.Sweeping.{swept_of}
 use Rattle.model.proofs.Sound.{Sound}
-use Rattle.numbers.proofs.Cases.{cases, clash, never, and-true, by_eq, by_lt}
+use Rattle.numbers.proofs.Cases.{cases, by_answer, none_some, same_some, clash, never, and-true, by_eq, by_lt}
 use Rattle.numbers.proofs.Lists.{all_imp, any_false, of_none}
 use Rattle.numbers.proofs.Ranges.{meets_false, meets_true}
 use Rattle.freemap.proofs.Places as free
@@ -53,16 +53,6 @@ module _ (w : World) (n p : ℕ) where
 
 -- ---- the search
 
-pub by_search : {P : Type 0} (o : Option ℕ) → ((a : ℕ) → o ≡ some a → P) → (o ≡ none → P) → P
-by_search none f g = g refl
-by_search (some a) f g = f a refl
-
-pub none_some : {a : ℕ} → none ≡ some a → ⊥
-none_some e = let z : ◌≡◌ {A = ℕ} 0 1 = cc in omega arith
-
-pub same_some : {a b : ℕ} → some a ≡ some b → a ≡ b
-same_some e = cc
-
 -- The first of n numbers from b on that passes.
 record Found (f : ℕ → Bool) (b n a : ℕ) : Type 0 where
   passes : f a ≡ true
@@ -71,7 +61,7 @@ record Found (f : ℕ → Bool) (b n a : ℕ) : Type 0 where
   before : (p : ℕ) → b ≤ p → p < a → f p ≡ false
 
 module _ (f : ℕ → Bool) where
-  search_some : (b n a : ℕ) → first_from f b n ≡ some a → Found f b n a
+  search_some : (b n a : ℕ) → first_from f b n ≡ Some a → Found f b n a
   unfolding first_from
   search_some b zero a e = absurd (none_some e)
   search_some b (suc n) a e =
@@ -90,16 +80,16 @@ module _ (f : ℕ → Bool) where
         before = λ p g h. by_eq p b (λ e. ap f e ∙ t) (λ d. s.before p (omega (arith, d)) h);
       })
 
-  search_none : (b n : ℕ) → first_from f b n ≡ none → (p : ℕ) → b ≤ p → p < b + n → f p ≡ false
+  search_none : (b n : ℕ) → first_from f b n ≡ None → (p : ℕ) → b ≤ p → p < b + n → f p ≡ false
   unfolding first_from
   search_none b zero e p l u = absurd (omega arith)
   search_none b (suc n) e p l u =
-      cases (f b) (λ t. let q : none ≡ some b = sym e ∙ simp t in absurd (none_some q))
+      cases (f b) (λ t. let q : None ≡ Some b = sym e ∙ simp t in absurd (none_some q))
       (λ t. by_eq p b (λ q. ap f q ∙ t) (λ d. search_none (suc b) n (sym (simp t) ∙ e) p (omega (arith, d)) (omega arith)))
 
 module _ (w : World) (n : ℕ) where
   -- the place that is found is the lowest of a free span
-  pub least_found : (a : ℕ) → least_free w n ≡ some a → LeastFree w n a
+  pub least_found : (a : ℕ) → least_free w n ≡ Some a → LeastFree w n a
   least_found a e =
       let s = search_some (is_free w n) _ _ a e in
       record {
@@ -108,21 +98,21 @@ module _ (w : World) (n : ℕ) where
             by_lt q a (λ l. clash (true_free w n q f) (s.before q f.from l)) (λ l. l);
       }
 
-  pub none_found : ((p : ℕ) → FreeSpan w n p → ⊥) → least_free w n ≡ none
-  none_found h = by_search (least_free w n) (λ a e. absurd (h a (least_found a e).free)) (λ e. e)
+  pub none_found : ((p : ℕ) → FreeSpan w n p → ⊥) → least_free w n ≡ None
+  none_found h = by_answer (least_free w n) (λ a e. absurd (h a (least_found a e).free)) (λ e. e)
 
   module _ (pos : 0 < n) where
     -- none is found only where none is free
-    pub none_free : least_free w n ≡ none → (p : ℕ) → FreeSpan w n p → ⊥
+    pub none_free : least_free w n ≡ None → (p : ℕ) → FreeSpan w n p → ⊥
     none_free e p f =
         let u = f.upto in
         let l = f.from in
         clash (true_free w n p f) (search_none (is_free w n) _ _ e p l (omega arith))
 
-    pub found_least : (a : ℕ) → LeastFree w n a → least_free w n ≡ some a
+    pub found_least : (a : ℕ) → LeastFree w n a → least_free w n ≡ Some a
     found_least a l =
-        by_search (least_free w n)
-        (λ b e. let m = least_found b e in e ∙ ap some (le_antisymm (m.least a l.free) (l.least b m.free)))
+        by_answer (least_free w n)
+        (λ b e. let m = least_found b e in e ∙ ap Some (le_antisymm (m.least a l.free) (l.least b m.free)))
         (λ e. absurd (none_free e a l.free))
 
 -- ---- the free map's first fit
@@ -161,7 +151,7 @@ module _ (w : World) (s : Sound w) where
   least_is_fit n pos =
       let b = block_most w s in
       let l = fit_lowest w.limits.table_end w.limits.file_len (held_ranges w) n (block w) 0 pos (block_some w) (omega (arith, s.container.file)) in
-      by_search (least_free w n)
+      by_answer (least_free w n)
       (λ a e.
       let m = least_found w n a e in
       e ∙ sym (l.some_is a (record { span = by_bytes n a m.free; least = λ q f. m.least q (by_ranges n q f) })))

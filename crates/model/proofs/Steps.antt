@@ -2,7 +2,7 @@
 use Prim.Native.Nat.{ℕ}
 use mathlib.Core.Bool.{true, false}
 use mathlib.Core.List.{List, [], ◌∷◌, ◌++◌}
-use mathlib.Core.Option.{Option, none, some}
+use Rattle.std.specs.Prelude.{Option, None, Some}
 use mathlib.Core.Path.{◌≡◌, refl, ap, sym, subst, ◌∙◌}
 use native.Mathlib.Omega.{arith}
 use borrow.Author.Tests.{eq-eqb, ne_eqb, not-false}
@@ -40,12 +40,12 @@ module _ (w : World) (c : Call) where
 -- The place of an accepted piece.
 pub record Placed (w : World) (n : ℕ) : Type 0 where
   pub at : ℕ
-  pub is : least_free w n ≡ some at
+  pub is : least_free w n ≡ Some at
   pub least : LeastFree w n at
 
 room_of : (w : World) (n : ℕ) (o : Option ℕ) → least_free w n ≡ o → is_none o ≡ false → Placed w n
-room_of w n none e f = clash {b = true} refl f
-room_of w n (some a) e f = record { at = a; is = e; least = least_found w n a e }
+room_of w n None e f = clash {b = true} refl f
+room_of w n (Some a) e f = record { at = a; is = e; least = least_found w n a e }
 
 pub room_there : (w : World) (n : ℕ) → room_fails w n ≡ false → Placed w n
 unfolding room_fails
@@ -93,21 +93,21 @@ along_sound w s (c ∷ cs) = (s, along_sound (next w c) (next_sound w s c) cs)
 -- ---- create and grow where a span is free
 
 -- the tests before that of room decide
-pub room_left : (w : World) (tests : List ℕ) (n a : ℕ) → least_free w n ≡ some a → first (tests ++ (refuse 22 (room_fails w n) ∷ [])) ≡ first tests
+pub room_left : (w : World) (tests : List ℕ) (n a : ℕ) → least_free w n ≡ Some a → first (tests ++ (refuse 22 (room_fails w n) ∷ [])) ≡ first tests
 unfolding room_fails
 room_left w tests n a e =
     let q = none_first (refuse 22 (room_fails w n) ∷ []) (pass_none 22 (room_fails w n) (rw e), tt) in
     by_eq (first tests) 0 (λ z. first_go tests _ z ∙ q ∙ sym z) (first_stop tests _)
 
-pub created_next : (w : World) (id tag : ℕ) (name : List ℕ) (a : ℕ) → first (create_tests w id tag name) ≡ 0 → least_free w (header_len w) ≡ some a
-    → (answer_to w (create id tag name) ≡ accepted (some a)) × (next w (create id tag name) ≡ created_at w id tag name a)
+pub created_next : (w : World) (id tag : ℕ) (name : List ℕ) (a : ℕ) → first (create_tests w id tag name) ≡ 0 → least_free w (header_len w) ≡ Some a
+    → (answer_to w (create id tag name) ≡ accepted (Some a)) × (next w (create id tag name) ≡ created_at w id tag name a)
 unfolding refusal_to byte_for accept
 created_next w id tag name a z e =
     let r = room_left w (create_tests w id tag name) (header_len w) a e ∙ z in
     (answer_value _ _ r ∙ ap accepted e, next_accepted w (create id tag name) r ∙ ap (λ (o : Option ℕ). created_at w id tag name (or_zero o)) e)
 
-pub grown_next : (w : World) (id a : ℕ) → first (grow_tests w id) ≡ 0 → least_free w (step_len w (region_in w id)) ≡ some a
-    → (answer_to w (grow id) ≡ accepted (some a)) × (next w (grow id) ≡ grown_at w id a)
+pub grown_next : (w : World) (id a : ℕ) → first (grow_tests w id) ≡ 0 → least_free w (step_len w (region_in w id)) ≡ Some a
+    → (answer_to w (grow id) ≡ accepted (Some a)) × (next w (grow id) ≡ grown_at w id a)
 unfolding refusal_to byte_for accept
 grown_next w id a z e =
     let n : ℕ = step_len w (region_in w id) in

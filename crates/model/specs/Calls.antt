@@ -1,6 +1,5 @@
 -- Document 01, "The plan (added)" and "Why a call is turned down": what each call answers, and what it makes of the world.
-use Rattle.std.specs.Prelude.{ℕ, ◌+◌, ◌*◌, ◌/◌, ◌%◌, ◌^◌, min, max, Bool, cond, not, ◌&&◌, ◌||◌, List, [], ◌∷◌, ◌++◌, eqb, leb, ltb, length}
-use Rattle.std.proofs.Math.Option.{Option, none, some}
+use Rattle.std.specs.Prelude.{ℕ, ◌+◌, ◌*◌, ◌/◌, ◌%◌, ◌^◌, min, max, Bool, cond, not, ◌&&◌, ◌||◌, List, [], ◌∷◌, ◌++◌, eqb, leb, ltb, length, Option, None, Some}
 use Rattle.footprint.specs.Footprint.{kind_code}
 use Rattle.footprint.specs.declared.RegionKind.TheVariants.{Append, Slot}
 use Rattle.model.specs.Region.{Region, capacity, with_data, id_of, region_of, on_region, without}
@@ -14,7 +13,6 @@ use Rattle.numbers.specs.Sums.{top}
 use Rattle.regionmap.specs.Map.{run_of}
 use Rattle.runs.specs.Runs.{Run, runs_of, run_byte}
 use Rattle.tagspace.specs.Row.{fits}
-use Rattle.tagspace.specs.declared.Cap.{Cap}
 
 pub data Call : Type 0 where
   -- "create(id, tag, name)"
@@ -26,7 +24,7 @@ pub data Call : Type 0 where
   -- "drop(id)"
   drop : (id : ℕ) → Call
   -- "cap(tag, limit or none)"
-  cap : (tag : ℕ) (limit : Cap) → Call
+  cap : (tag : ℕ) (limit : Option ℕ) → Call
   -- "locate(id, pos, n)"
   locate : (id pos n : ℕ) → Call
 
@@ -168,7 +166,7 @@ abbrev pub cap_tests : World → ℕ → List ℕ
 cap_tests w tag = refuse 19 (tag_full w tag) ∷ []
 
 -- A cap below what is used is a cap like others.
-abbrev pub capped : World → ℕ → Cap → World
+abbrev pub capped : World → ℕ → Option ℕ → World
 capped w tag limit = with_rows w (put_row (tag_row tag limit) w.rows)
 
 -- ---- locate
@@ -200,10 +198,10 @@ refusal_to w (locate id pos n) = first (locate_tests w id pos n)
 unfoldable pub byte_for : World → Call → Option ℕ
 byte_for w (create id tag name) = least_free w (header_len w)
 byte_for w (grow id) = least_free w (step_len w (region_in w id))
-byte_for w (publish id len) = none
-byte_for w (drop id) = none
-byte_for w (cap tag limit) = none
-byte_for w (locate id pos n) = some (run_byte (run_at (region_in w id) pos) pos)
+byte_for w (publish id len) = None
+byte_for w (drop id) = None
+byte_for w (cap tag limit) = None
+byte_for w (locate id pos n) = Some (run_byte (run_at (region_in w id) pos) pos)
 
 -- Accepted, with its byte where it has one, or "its number alone".
 abbrev pub answer_to : World → Call → Answer (Option ℕ)
@@ -227,7 +225,7 @@ abbrev pub refusal_shown : Answer (Option ℕ) → ℕ
 refusal_shown a = number_of a
 
 abbrev pub at_shown : Answer (Option ℕ) → ℕ
-at_shown a = or_zero (value_or none a)
+at_shown a = or_zero (value_or None a)
 
 -- ---- a list of calls: "Each call gets the plan as the last one left it"
 

@@ -1,7 +1,6 @@
 -- Document 01, "Demand 3 is one claim about the list", of the model: what is claimed of the world after every list of calls on an
 -- opened plan. `demand` (proofs/Demand) proves it.
-use Rattle.std.specs.Prelude.{ℕ, ◌+◌, ◌-◌, ◌≤◌, ◌<◌, true, false, List, [], ◌∷◌, ◌≡◌}
-use Rattle.std.proofs.Math.Option.{some}
+use Rattle.std.specs.Prelude.{ℕ, ◌+◌, ◌-◌, ◌≤◌, ◌<◌, true, false, List, [], ◌∷◌, ◌≡◌, Some}
 use Rattle.model.specs.Calls.{Call, create, grow, drop, locate, known, region_in, header_len, create_tests, step_len, grow_tests, refusal_to, answer_to, next, world_after}
 use Rattle.model.specs.Span.{FreeSpan, LeastFree}
 use Rattle.model.specs.World.{World, held, free, physical, logical}
@@ -28,11 +27,11 @@ Keeps w id (c ∷ cs) = (c ≡ drop id → refusal_to w c ≡ 0 → ⊥) × Keep
 pub record Room (w : World) (tests : List ℕ) (n : ℕ) (c : Call) : Type 0 where
   pub full : first tests ≡ 0 → ((p : ℕ) → FreeSpan w n p → ⊥) → answer_to w c ≡ refused 22
   pub only_full : answer_to w c ≡ refused 22 → (p : ℕ) → FreeSpan w n p → ⊥
-  pub placed : first tests ≡ 0 → (p : ℕ) → FreeSpan w n p → (a : ℕ) × LeastFree w n a × (answer_to w c ≡ accepted (some a))
+  pub placed : first tests ≡ 0 → (p : ℕ) → FreeSpan w n p → (a : ℕ) × LeastFree w n a × (answer_to w c ≡ accepted (Some a))
 
 pub record Demand (w : World) : Type 0 where
   -- every published position is located, at the byte of the region's own extents laid end to end
-  pub located : (id p : ℕ) → Published w id p → answer_to w (locate id p 1) ≡ accepted (some (byte_at w id p))
+  pub located : (id p : ℕ) → Published w id p → answer_to w (locate id p 1) ≡ accepted (Some (byte_at w id p))
   -- different pairs of region and position have different bytes
   pub own : (id p jd q : ℕ) → Published w id p → Published w jd q → byte_at w id p ≡ byte_at w jd q → (id ≡ jd) × (p ≡ q)
   -- such a byte stays until an accepted drop of the region

@@ -1,7 +1,6 @@
 -- Document 01, "The plan (added)", open, by examples: one that is accepted, with the world that it begins, and some that are refused
 -- for each number from 1 to 15. `opens` (proofs/Opens) computes them.
-use Rattle.std.specs.Prelude.{ℕ, ◌+◌, ◌*◌, ◌^◌, Bool, true, false, List, [], ◌∷◌, ◌++◌, map, ◌≡◌, replicate, take}
-use Rattle.std.proofs.Math.Option.{some}
+use Rattle.std.specs.Prelude.{ℕ, ◌+◌, ◌*◌, ◌^◌, Bool, true, false, List, [], ◌∷◌, ◌++◌, map, ◌≡◌, replicate, take, Some, None}
 use Rattle.footprint.specs.declared.Entry.{Entry}
 use Rattle.footprint.specs.declared.Header.{Header}
 use Rattle.footprint.specs.declared.Limits.{Limits}
@@ -14,7 +13,6 @@ use Rattle.model.specs.Region.{Region}
 use Rattle.model.specs.World.{tag_row, held, physical, logical}
 use Rattle.numbers.specs.Range.{range}
 use Rattle.numbers.specs.Refusals.{accepted, refused}
-use Rattle.tagspace.specs.declared.Cap.TheVariants as cap_is
 
 -- ---- what an open is made of
 
@@ -81,15 +79,15 @@ pub record Accepting : Type 0 where
   -- "A region's published length is then its entry's data size"
   pub published : map (λ (r : Region). r.published) (opened two).regions ≡ 98304 ∷ 4608 ∷ []
   -- "in tag order"; "no tag has a cap"
-  pub rows : (opened two).rows ≡ tag_row 3 cap_is.Nothing ∷ tag_row 7 cap_is.Nothing ∷ []
+  pub rows : (opened two).rows ≡ tag_row 3 None ∷ tag_row 7 None ∷ []
   -- "physical totals count footprints, logical ones published lengths"
   pub totals : (physical (opened two) 7 ≡ 34 * 4096) × (logical (opened two) 7 ≡ 98304)
   -- Across the join of two extents: byte 16384 + 65535.
-  pub joined : answer_to (opened two) (locate 1 65535 2) ≡ accepted (some 81919)
+  pub joined : answer_to (opened two) (locate 1 65535 2) ≡ accepted (Some 81919)
   -- 23. "A .. range passes the data", though the capacity is 131072.
-  pub past : (answer_to (opened two) (locate 1 98303 1) ≡ accepted (some 114687)) × (answer_to (opened two) (locate 1 98303 2) ≡ refused 23)
+  pub past : (answer_to (opened two) (locate 1 98303 1) ≡ accepted (Some 114687)) × (answer_to (opened two) (locate 1 98303 2) ≡ refused 23)
   -- "A position at a join belongs to the later run."
-  pub later : answer_to (opened two) (locate 2 4096 1) ≡ accepted (some 163840)
+  pub later : answer_to (opened two) (locate 2 4096 1) ≡ accepted (Some 163840)
   -- 24. "The range crosses a run's end", where the extents don't adjoin.
   pub crossing : answer_to (opened two) (locate 2 4095 2) ≡ refused 24
 

@@ -1,6 +1,5 @@
 -- Document 01: "A span is free if it starts at a multiple of the block, lies from table end to length and meets nothing held."
-use Rattle.std.specs.Prelude.{ℕ, zero, suc, ◌+◌, ◌-◌, ◌%◌, ◌≤◌, Bool, true, false, cond, not, ◌&&◌, ◌≡◌, eqb, leb}
-use Rattle.std.proofs.Math.Option.{Option, none, some}
+use Rattle.std.specs.Prelude.{ℕ, zero, suc, ◌+◌, ◌-◌, ◌%◌, ◌≤◌, Bool, true, false, cond, not, ◌&&◌, ◌≡◌, eqb, leb, Option, None, Some}
 use Rattle.model.specs.World.{World, block, held_ranges}
 use Rattle.numbers.specs.Lists.{All, any}
 use Rattle.numbers.specs.Range.{Range, range, Meet, meets}
@@ -30,8 +29,8 @@ is_free w n p =
 
 -- The first of the n numbers from b on that passes a test.
 unfoldable pub first_from : (ℕ → Bool) → ℕ → ℕ → Option ℕ
-first_from f b zero = none
-first_from f b (suc n) = cond (f b) (some b) (first_from f (suc b) n)
+first_from f b zero = None
+first_from f b (suc n) = cond (f b) (Some b) (first_from f (suc b) n)
 
 -- "first fit", "lowest address first": the least place of a free span of n bytes, none if none is free. `least_found`,
 -- `found_least` and `none_free` (proofs/Spans) say that it is, `least_is_fit` that the free map's first fit is the same.
@@ -39,10 +38,10 @@ abbrev pub least_free : World → ℕ → Option ℕ
 least_free w n = first_from (is_free w n) w.limits.table_end (w.limits.file_len - w.limits.table_end)
 
 abbrev pub is_none : Option ℕ → Bool
-is_none none = true
-is_none (some p) = false
+is_none None = true
+is_none (Some p) = false
 
 -- "at (byte placed or located, else 0)"
 abbrev pub or_zero : Option ℕ → ℕ
-or_zero none = 0
-or_zero (some p) = p
+or_zero None = 0
+or_zero (Some p) = p

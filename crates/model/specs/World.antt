@@ -1,5 +1,5 @@
 -- Document 01, "The plan (added)": what open's arguments and the calls make of a container: regions, tags, and which bytes are held.
-use Rattle.std.specs.Prelude.{ℕ, Bool, List, map, eqb}
+use Rattle.std.specs.Prelude.{ℕ, Bool, List, map, eqb, None, Option}
 use Rattle.footprint.specs.Footprint.{block_of}
 use Rattle.footprint.specs.declared.Limits.{Limits}
 use Rattle.freemap.specs.Gaps.{gaps_of}
@@ -8,16 +8,14 @@ use Rattle.numbers.specs.Keyed.{has_key, keyed, put_keyed}
 use Rattle.numbers.specs.Lists.{keep}
 use Rattle.numbers.specs.Range.{Range, total}
 use Rattle.numbers.specs.Sums.{sum}
-use Rattle.tagspace.specs.declared.Cap.{Cap}
-use Rattle.tagspace.specs.declared.Cap.TheVariants as cap_is
 use Rattle.tagspace.specs.declared.TagSpace.{TagSpace}
 
 -- A tag's row, with its cap.
 pub record TagRow : Type 0 where
   pub tag : ℕ
-  pub cap : Cap
+  pub cap : Option ℕ
 
-abbrev pub tag_row : ℕ → Cap → TagRow
+abbrev pub tag_row : ℕ → Option ℕ → TagRow
 tag_row tag cap = record { tag = tag; cap = cap }
 
 abbrev pub tag_of : TagRow → ℕ
@@ -69,7 +67,7 @@ has_row w tag = has_key tag_of tag w.rows
 
 -- A tag's row, one without a cap where it has none.
 abbrev pub row_of : ℕ → List TagRow → TagRow
-row_of tag ts = keyed tag_of (tag_row tag cap_is.Nothing) tag ts
+row_of tag ts = keyed tag_of (tag_row tag None) tag ts
 
 -- The rows with one put in its place, "in tag order", over the row of the same tag where there is one.
 abbrev pub put_row : TagRow → List TagRow → List TagRow

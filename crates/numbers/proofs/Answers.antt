@@ -1,4 +1,5 @@
 -- Answers: which of the two cases a number makes, and what each case tells.
+use Rattle.std.specs.Prelude.{Result, Ok, Err}
 use Prim.Native.Nat.{ℕ, ◌<◌}
 use mathlib.Core.Bool.{Bool, true, false, cond}
 use mathlib.Core.Path.{◌≡◌, sym, ◌∙◌}
@@ -57,3 +58,7 @@ module _ {A : Type 0} where
     pub one_fails : 0 < n → b ≡ true → answer (refuse n b) v ≡ refused n
     unfolding refuse
     one_fails h e = rw e (answer_number n v (λ z. omega arith))
+
+-- the same of a result
+pub no_error : {A E : Type 0} (v : A) (e : E) → ◌≡◌ {A = Result A E} (Ok v) (Err e) → ⊥
+no_error v e z = cc

@@ -5,6 +5,7 @@ use mathlib.Core.Logic.{◌⊎◌, inl, inr}
 use mathlib.Core.Path.{◌≡◌, refl, sym, ◌∙◌}
 use native.Mathlib.Omega.{arith}
 use lib.Dec.{ltb, leb, eqb}
+use Rattle.std.specs.Prelude.{Option, None, Some}
 use borrow.Author.Tests.{lt-ltb, le-ltb, le-leb, lt-leb, ltb-true, ltb-false, eqb-true, eqb-false}
 
 module _ {P : Type 0} where
@@ -24,6 +25,18 @@ module _ {P : Type 0} where
   -- a test is not both
   pub clash : {b : Bool} → b ≡ true → b ≡ false → P
   clash t f = let z : true ≡ false = sym t ∙ f in let e : ◌≡◌ {A = ℕ} 0 1 = cc in absurd (omega arith)
+
+-- on an option
+module _ {A : Type 0} where
+  pub by_answer : {P : Type 0} (o : Option A) → ((a : A) → o ≡ Some a → P) → (o ≡ None → P) → P
+  by_answer None f g = g refl
+  by_answer (Some a) f g = f a refl
+
+  pub none_some : {a : A} → None ≡ Some a → ⊥
+  none_some e = let z : ◌≡◌ {A = ℕ} 0 1 = cc in omega arith
+
+  pub same_some : {a b : A} → Some a ≡ Some b → a ≡ b
+  same_some e = cc
 
 -- two tests that hold together are the same, and one that cannot hold is false
 pub both_ways : (a b : Bool) → (a ≡ true → b ≡ true) → (b ≡ true → a ≡ true) → a ≡ b
@@ -56,3 +69,10 @@ pub left_over : (d m b : ℕ) → m ≤ d → ltb (d - m) b ≡ ltb d (m + b)
 left_over d m b h =
     by_lt d (m + b) (λ l. lt-ltb (d - m) b (omega arith) ∙ sym (lt-ltb d (m + b) l))
     (λ l. le-ltb (d - m) b (omega arith) ∙ sym (le-ltb d (m + b) l))
+
+-- a test turned round
+pub true_not : {b : Bool} → true ≡ not b → b ≡ false
+true_not {b = b} e = cases b (λ t. let f : true ≡ false = simp t at e in t ∙ f) (λ f. f)
+
+pub false_not : {b : Bool} → false ≡ not b → b ≡ true
+false_not {b = b} e = cases b (λ t. t) (λ f. let t : false ≡ true = simp f at e in f ∙ t)

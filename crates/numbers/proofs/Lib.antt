@@ -11,3 +11,4 @@ pub mod Powers
 pub mod Refusals
 pub mod Answers
 pub mod Halving
+pub mod Chunks

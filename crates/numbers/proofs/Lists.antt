@@ -1,7 +1,7 @@
 -- What holds of every element of a list or of some: of its parts and at each index; what is written over a list's
 -- front. Over any element type.
 use Prim.Native.Nat.{ℕ, zero, suc, ◌+◌, ◌-◌, ◌≤◌, ◌<◌}
-use mathlib.Core.Bool.{Bool, true, false, ◌||◌, or-true, or_assoc}
+use mathlib.Core.Bool.{Bool, true, false, ◌||◌, ◌&&◌, or-true, or_assoc}
 use mathlib.Core.List.{List, [], ◌∷◌, ◌++◌, map, reverse, reverse-cons}
 use mathlib.Core.Logic.{◌⊎◌, inl, inr, ⊎_elim}
 use mathlib.Core.Path.{◌≡◌, refl, ap, sym, subst, ◌∙◌}
@@ -10,9 +10,11 @@ use native.Mathlib.Omega.{arith}
 use lib.Dec.{eqb}
 use lib.ListN.{length, get_or, drop, set, length-append, length-drop, length-reverse, length-set, get_or-append}
 use lib.Seq.{drop-cons, append_snoc, set_at, get_or_at, get_or-drop, get_or-set_same, get_or-set_other}
+use lib.Pointwise.{pointwise}
+use Rattle.std.specs.List.{list_any}
 use borrow.Author.Tests.{eq-eqb, eqb-true}
 use Rattle.numbers.specs.Lists.{All, Any, Pairwise, Distinct, any, same, written}
-use Rattle.numbers.proofs.Cases.{cases, clash, by_lt, by_eq, and-true}
+use Rattle.numbers.proofs.Cases.{cases, clash, never, by_lt, by_eq, and-true}
 
 module _ {A : Type 0} (P : A → Type 0) where
   pub all_append : (xs ys : List A) → All P xs → All P ys → All P (xs ++ ys)
@@ -273,3 +275,22 @@ pub past_none : {A : Type 0} (l : List A) (i : ℕ) (d : A) → length l ≤ i �
 past_none [] i d h = refl
 past_none (x ∷ l) zero d h = absurd (omega arith)
 past_none (x ∷ l) (suc i) d h = past_none l i d (omega arith)
+
+-- ---- what the library's chains and comparisons compute
+
+pub list_any_is : {A : Type 0} (f : A → Bool) (l : List A) → list_any f l ≡ any f l
+unfolding any
+list_any_is f [] = refl
+list_any_is f (x ∷ xs) = ap (λ (b : Bool). f x || b) (list_any_is f xs)
+
+pub pointwise_same : (a b : List ℕ) → pointwise eqb a b ≡ same a b
+unfolding same
+pointwise_same [] [] = refl
+pointwise_same [] (y ∷ b) = refl
+pointwise_same (x ∷ a) [] = refl
+pointwise_same (x ∷ a) (y ∷ b) = ap (λ (t : Bool). eqb x y && t) (pointwise_same a b)
+
+pub same_swap : (a b : List ℕ) → same a b ≡ same b a
+same_swap a b =
+    cases (same a b) (λ t. t ∙ sym (true_same b a (sym (same_true a b t))))
+    (λ f. f ∙ sym (never (same b a) (λ t. clash (true_same a b (sym (same_true b a t))) f)))

@@ -1,4 +1,7 @@
 -- Tests in order: the first that fails gives its number; extents tested one by one.
+use Rattle.numbers.specs.declared.refusal.Refusal.TheVariants.{Lists, Block, Length, Entry, NumbersDiffer, KindsDiffer, FlagsDiffer, NotReady, HeaderCount, NoMultiple, Outside, ExtentSum, Overlaps, NumberHeld, Marked, Unknown, SlotGrows, NameHeld, Full, LastNumber, OverCap, NoRoom, Past, Crosses}
+use Rattle.numbers.specs.declared.refusal.Refusal.{Refusal}
+use Rattle.std.proofs.Common.{lit<}
 use Prim.Native.Nat.{ℕ, zero, suc, ◌+◌, ◌≤◌, ◌<◌}
 use mathlib.Core.Bool.{Bool, true, false}
 use mathlib.Core.List.{List, [], ◌∷◌, ◌++◌}
@@ -11,7 +14,7 @@ use lib.ListN.{length, get_or, drop, drop_of_length-le}
 use borrow.Author.Tests.{eq-eqb, ne_eqb, ltb-false, le-ltb}
 use Rattle.numbers.specs.Lists.{All}
 use Rattle.numbers.specs.Range.{Range, blank, total}
-use Rattle.numbers.specs.Refusals.{first, refuse, each_extent}
+use Rattle.numbers.specs.Refusals.{first, refuse, each_extent, refusal_number}
 use Rattle.numbers.specs.Sums.{top, sum}
 use Rattle.numbers.proofs.Cases.{by_eq}
 use Rattle.numbers.proofs.Lists.{from_here}
@@ -203,3 +206,30 @@ module _ {outside : Range → Bool} {xs : List Range} {n i s : ℕ} (g : Walked 
     walk_sum =
         let t : total (drop i xs) ≡ 0 = rw (drop_of_length-le xs {i = i} (omega (arith, g.all))) in
         omega (arith, g.sums, t)
+
+-- a reason's number is not 0
+pub reason_above : (r : Refusal) → 0 < refusal_number r
+reason_above Lists = lit< tt
+reason_above Block = lit< tt
+reason_above Length = lit< tt
+reason_above Entry = lit< tt
+reason_above NumbersDiffer = lit< tt
+reason_above KindsDiffer = lit< tt
+reason_above FlagsDiffer = lit< tt
+reason_above NotReady = lit< tt
+reason_above HeaderCount = lit< tt
+reason_above NoMultiple = lit< tt
+reason_above Outside = lit< tt
+reason_above ExtentSum = lit< tt
+reason_above Overlaps = lit< tt
+reason_above NumberHeld = lit< tt
+reason_above Marked = lit< tt
+reason_above Unknown = lit< tt
+reason_above SlotGrows = lit< tt
+reason_above NameHeld = lit< tt
+reason_above Full = lit< tt
+reason_above LastNumber = lit< tt
+reason_above OverCap = lit< tt
+reason_above NoRoom = lit< tt
+reason_above Past = lit< tt
+reason_above Crosses = lit< tt

@@ -1,12 +1,18 @@
 -- Sums over lists, and sums that stop at 2^64 - 1.
-use Prim.Native.Nat.{ℕ, suc, ◌+◌, ◌≤◌, ◌<◌}
+use Prim.Native.Nat.{ℕ, suc, ◌+◌, ◌^◌, ◌≤◌, ◌<◌}
 use mathlib.Core.List.{List, [], ◌∷◌, ◌++◌, map-append}
-use mathlib.Core.Path.{◌≡◌, ap, sym, ◌∙◌}
+use mathlib.Core.Bool.{true, false}
+use mathlib.Core.Path.{◌≡◌, refl, ap, sym, ◌∙◌}
 use native.Mathlib.Omega.{arith}
 use lib.ListN.{length, get_or, take, drop, take-append-drop}
 use lib.Seq.{take-suc, take-take}
 use Rattle.numbers.specs.Range.{Range, total}
-use Rattle.numbers.specs.Sums.{stop, sum}
+use lib.Dec.{ltb}
+use borrow.Author.Tests.{lt-ltb, le-ltb}
+use Rattle.std.specs.Prelude.{Option, None, Some}
+use Rattle.std.specs.Option.{SomeIff}
+use Rattle.numbers.specs.Sums.{stop, sum, top}
+use Rattle.numbers.proofs.Cases.{by_lt, none_some, same_some}
 
 pub sum_append : (xs ys : List ℕ) → sum (xs ++ ys) ≡ sum xs + sum ys
 unfolding sum
@@ -44,3 +50,17 @@ total_take n xs =
     let e = total_append (take n xs) (drop n xs) in
     let t = ap total (take-append-drop n xs) in
     omega arith
+
+-- what `checked_add` answers, as a test of the sum
+module _ (a b : ℕ) where
+  pub checked_over : {r : Option ℕ} → SomeIff r (a + b < 2 ^ 64) (a + b) → r ≡ None → ltb top (a + b) ≡ true
+  checked_over {r = None} h e = by_lt top (a + b) (lt-ltb _ _) (λ l. absurd (h (omega arith)))
+  checked_over {r = Some s} h e = absurd (none_some (sym e))
+
+  pub record Within (s : ℕ) : Type 0 where
+    pub fits : ltb top (a + b) ≡ false
+    pub is : s ≡ a + b
+
+  pub checked_within : {s : ℕ} {r : Option ℕ} → SomeIff r (a + b < 2 ^ 64) (a + b) → r ≡ Some s → Within s
+  checked_within {r = None} h e = absurd (none_some e)
+  checked_within {r = Some _} h e = record { fits = le-ltb _ _ (let l = h.0 in omega arith); is = sym (same_some e) ∙ h.1 }

@@ -1,5 +1,32 @@
 -- Document 01, "Why a call is turned down": which of several refusals is given.
-use Rattle.std.specs.Prelude.{ℕ, ◌+◌, Bool, true, false, cond, List, [], ◌∷◌, ltb, eqb}
+use Rattle.std.specs.Prelude.{ℕ, ◌+◌, Result, Ok, Err, Bool, true, false, cond, List, [], ◌∷◌, ltb, eqb}
+use Rattle.numbers.specs.declared.refusal.Refusal.{Refusal}
+use Rattle.numbers.specs.declared.refusal.Refusal.TheVariants.{
+  Lists,
+  Block,
+  Length,
+  Entry,
+  NumbersDiffer,
+  KindsDiffer,
+  FlagsDiffer,
+  NotReady,
+  HeaderCount,
+  NoMultiple,
+  Outside,
+  ExtentSum,
+  Overlaps,
+  NumberHeld,
+  Marked,
+  Unknown,
+  SlotGrows,
+  NameHeld,
+  Full,
+  LastNumber,
+  OverCap,
+  NoRoom,
+  Past,
+  Crosses,
+}
 use Rattle.numbers.specs.Range.{Range}
 use Rattle.numbers.specs.Sums.{top}
 
@@ -40,3 +67,39 @@ value_or other (refused n) = other
 unfoldable pub each_extent : (Range → Bool) → ℕ → List Range → ℕ
 each_extent outside before [] = 0
 each_extent outside before (x ∷ xs) = first (refuse 11 (outside x) ∷ refuse 12 (ltb top (before + x.len)) ∷ each_extent outside (before + x.len) xs ∷ [])
+
+-- The numbers of the reasons, as the paragraph has them.
+abbrev pub refusal_number : Refusal → ℕ
+refusal_number Lists = 1
+refusal_number Block = 2
+refusal_number Length = 3
+refusal_number Entry = 4
+refusal_number NumbersDiffer = 5
+refusal_number KindsDiffer = 6
+refusal_number FlagsDiffer = 7
+refusal_number NotReady = 8
+refusal_number HeaderCount = 9
+refusal_number NoMultiple = 10
+refusal_number Outside = 11
+refusal_number ExtentSum = 12
+refusal_number Overlaps = 13
+refusal_number NumberHeld = 14
+refusal_number Marked = 15
+refusal_number Unknown = 16
+refusal_number SlotGrows = 17
+refusal_number NameHeld = 18
+refusal_number Full = 19
+refusal_number LastNumber = 20
+refusal_number OverCap = 21
+refusal_number NoRoom = 22
+refusal_number Past = 23
+refusal_number Crosses = 24
+
+-- What a result says: its value, or the reason's number.
+abbrev pub told : {A : Type 0} → Result A Refusal → Answer A
+told (Ok v) = accepted v
+told (Err r) = refused (refusal_number r)
+
+-- The reason's number, 0 if accepted.
+abbrev pub refusal_in : {A : Type 0} → Result A Refusal → ℕ
+refusal_in r = number_of (told r)

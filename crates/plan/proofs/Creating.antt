@@ -1,9 +1,13 @@
 -- What each return of `create` promises.
+use Rattle.std.specs.Option.{is_some}
+use Rattle.plan_record.specs.Promises.{Fits}
+use Rattle.numbers.specs.declared.refusal.Refusal.TheVariants.{Lists, NumberHeld, NameHeld, Full, LastNumber, OverCap, NoRoom}
+use Rattle.numbers.specs.declared.refusal.Refusal.{Refusal}
 use Prim.Native.Nat.{ℕ, ◌+◌, ◌*◌, ◌≤◌, ◌<◌}
 use mathlib.Core.Bool.{Bool, true, false, not, or-true}
 use mathlib.Core.List.{List, [], ◌∷◌, ◌++◌, map, map-append}
 use mathlib.Core.Logic.{inr}
-use mathlib.Core.Option.{some, none}
+use Rattle.std.specs.Prelude.{Some, None, Ok, Err, Result, Option}
 use mathlib.Core.Path.{◌≡◌, refl, ap, sym, subst, ◌∙◌}
 use native.Mathlib.Numerals.{add-one}
 use native.Mathlib.Omega.{arith}
@@ -16,16 +20,16 @@ use Rattle.accounting.specs.declared.Asked.{Asked}
 use Rattle.accounting.specs.declared.Posted.{Posted}
 use Rattle.model.specs.Span.{least_free}
 use Rattle.numbers.specs.Lists.{All, any, same, Distinct}
-use Rattle.numbers.specs.Refusals.{refuse, first, accepted}
+use Rattle.numbers.specs.Refusals.{refuse, first, accepted, refusal_number}
 use Rattle.numbers.specs.Sums.{top, stop, sum}
 use Rattle.plan_record.specs.Inner.{block_in, has_name, Named}
-use Rattle.plan_record.specs.Plan.{row_in, region_of, regions_of, rows_of, row_of, cap_of, world_of, Mapped, Valid, spot_of, past_region}
-use Rattle.plan_record.specs.Record.{name_of}
+use Rattle.plan_record.specs.Plan.{row_in, region_of, regions_of, rows_of, row_of, cap_of, world_of, Mapped, Valid, place_in, past_region, reply_of}
+use Rattle.plan_record.specs.Record.{text_of}
+use Rattle.plan_record.specs.declared.names.Name.{Name}
 use Rattle.plan_record.specs.declared.Plan.{Plan}
 use Rattle.plan_record.specs.declared.Region.{Region}
-use Rattle.plan_record.specs.declared.Reply.TheVariants.{At}
 use Rattle.plan.specs.Calls.{Called}
-use Rattle.plan.specs.Inner.{refusing, Seeks, fresh, CreateTested, with_new, Adds}
+use Rattle.plan.specs.Inner.{refusing, fresh, CreateTested, with_new, Adds}
 use Rattle.regionmap.specs.declared.RegionMap.{RegionMap}
 use Rattle.runs.specs.Runs.{runs_from, joined, not_empty}
 use Rattle.tagspace.specs.Row.{add_usage}
@@ -34,15 +38,15 @@ use Rattle.model.proofs.Regions.{if_tag}
 use Rattle.model.proofs.Spans.{least_found, block_some}
 use Rattle.model.proofs.Steps.{created_next, next_accepted}
 use Rattle.model.proofs.Totals.{create_physical, create_logical}
-use Rattle.numbers.proofs.Answers.{accepted_is}
-use Rattle.numbers.proofs.Cases.{cases}
+use Rattle.numbers.proofs.Answers.{accepted_is, same_value, not_both, no_error}
+use Rattle.numbers.proofs.Cases.{clash}
 use Rattle.numbers.proofs.Lists.{all_set, any_map, all_append, all_at}
-use Rattle.numbers.proofs.Refusals.{none_first, pass_none, first_go, first_stop, first_one}
+use Rattle.numbers.proofs.Refusals.{none_first, pass_none, first_go, first_stop, first_one, reason_above}
 use Rattle.plan_record.proofs.Holding.{block_is}
 use Rattle.plan_record.proofs.Known.{region_at, known_here, known_not, counted_is}
 use Rattle.plan_record.proofs.Tags.{table_in, Taken, posting_taken, with-tag, accounted_added, if_none}
-use Rattle.plan.proofs.Asking.{asked_full, asked_fine, asked_cap}
-use Rattle.plan.proofs.Refusing.{called_refused, called_accepted, Accepts, at_no_refusal}
+use Rattle.plan.proofs.Asking.{asked_full, asked_fits}
+use Rattle.plan.proofs.Refusing.{called_refused, called_accepted, Accepts}
 use Rattle.accounting.specs.Table as accounting
 use Rattle.model.specs.Calls as model
 use Rattle.model.specs.Region as region
@@ -88,40 +92,47 @@ module _ (p : Plan) (xs : List ℕ) where
 
 -- ---- the tests before that of room
 
+pub not_held : (p : Plan) (id : ℕ) (o : Option ℕ) → o ≡ place_in p id → (b : Bool) → b ≡ is_some o → b ≡ false → place_in p id ≡ None
+not_held p id None e b d f = sym e
+not_held p id (Some i) e b d f = absurd (clash d f)
+
 module _ (p : Plan) (id tag : ℕ) (name : List ℕ) where
   -- one of them failed
-  tested : (n : ℕ) → (n ≡ 0 → ⊥) → ((xs ss fs : List ℕ) → Valid p xs ss fs → first (model.create_tests (world_of p xs) id tag name) ≡ n) → CreateTested p id tag name n
-  tested n d t = record { told = t; short = λ z. absurd (d z); few = λ z. absurd (d z); below = λ z. absurd (d z) }
+  tested : (e : Refusal) → ((xs ss fs : List ℕ) → Valid p xs ss fs → first (model.create_tests (world_of p xs) id tag name) ≡ refusal_number e) → CreateTested p id tag name (refusal_number e)
+  tested e t =
+      let d : refusal_number e ≡ 0 → ⊥ = λ z. let h = reason_above e in omega arith in
+      record { told = t; short = λ z. absurd (d z); few = λ z. absurd (d z); below = λ z. absurd (d z) }
 
   pub create_long : 24 < length name → CreateTested p id tag name 1
   unfolding first refuse
-  create_long l = tested 1 (λ z. omega arith) (λ xs ss fs v. simp (lt-ltb _ _ l))
+  create_long l = tested Lists (λ xs ss fs v. simp (lt-ltb _ _ l))
 
-  module _ (t₁ : length name ≤ 24) (m i : ℕ) (a : m ≡ length (regions_of p)) (e : i ≡ spot_of p id) where
-    pub create_held : i < m → CreateTested p id tag name 14
+  module _ (t₁ : length name ≤ 24) where
+    pub create_held : (o : Option ℕ) → o ≡ place_in p id → (b : Bool) → b ≡ is_some o → b ≡ true → CreateTested p id tag name 14
     unfolding first refuse
-    create_held l = tested 14 (λ z. omega arith) (λ xs ss fs v. let k = known_here p xs id i m e a l in simp (le-ltb _ _ t₁, k))
+    create_held None e b d t = absurd (clash t d)
+    create_held (Some i) e b d t = tested NumberHeld (λ xs ss fs v. let k = known_here p xs id i (sym e) in simp (le-ltb _ _ t₁, k))
 
-    module _ (t₁₄ : m ≤ i) (b : Bool) (nd : Named p name b) where
+    module _ (t₁₄ : place_in p id ≡ None) (b : Bool) (nd : Named p name b) where
       pub create_named : b ≡ true → CreateTested p id tag name 18
       unfolding first refuse
       create_named h =
-          tested 18 (λ z. omega arith)
+          tested NameHeld
           (λ xs ss fs v.
-          let k = known_not p xs id i m e a t₁₄ in
+          let k = known_not p xs id t₁₄ in
           let q : model.named (world_of p xs) name ≡ true = named_is p xs name ∙ sym (nd.told t₁) ∙ h in
           simp (le-ltb _ _ t₁, k, q))
 
-      module _ (t₁₈ : b ≡ false) where
+      module _ (t₁₈ : b ≡ false) (m : ℕ) (a : m ≡ length (regions_of p)) where
         named_not : (xs : List ℕ) → model.named (world_of p xs) name ≡ false
         named_not xs = named_is p xs name ∙ sym (nd.told t₁) ∙ t₁₈
 
         pub create_full : 64 ≤ m → CreateTested p id tag name 19
         unfolding first refuse
         create_full l =
-            tested 19 (λ z. omega arith)
+            tested Full
             (λ xs ss fs v.
-            let k = known_not p xs id i m e a t₁₄ in
+            let k = known_not p xs id t₁₄ in
             let n = regions_many p xs in
             let h : 64 ≤ length (world_of p xs).regions = omega arith in
             simp (le-ltb _ _ t₁, k, named_not xs, le-leb _ _ h))
@@ -130,53 +141,51 @@ module _ (p : Plan) (id tag : ℕ) (name : List ℕ) where
           few_not : (xs : List ℕ) → leb 64 (length (world_of p xs).regions) ≡ false
           few_not xs = let n = regions_many p xs in lt-leb 64 (length (world_of p xs).regions) (omega arith)
 
-          pub create_tags : (q.refusal ≡ 0 → ⊥) → CreateTested p id tag name 19
+          pub create_tags : (e : Refusal) → q.answer ≡ Err e → CreateTested p id tag name (refusal_number e)
           unfolding first refuse
-          create_tags n =
-              tested 19 (λ z. omega arith)
+          create_tags e h =
+              tested e
               (λ xs ss fs v.
-              cases (model.tag_full (world_of p xs) tag)
-              (λ f. let k = known_not p xs id i m e a t₁₄ in simp (le-ltb _ _ t₁, k, named_not xs, f, or-true))
-              (λ f. absurd (n (asked_fine p xs ss fs v tag (2 * block) q o f))))
+              let f = asked_full p xs ss fs v tag (2 * block) q o e h in
+              let k = known_not p xs id t₁₄ in
+              simp (le-ltb _ _ t₁, k, named_not xs, f.0, f.1, or-true))
 
-          module _ (t₁₉ : q.refusal ≡ 0) where
+          module _ (c : Bool) (t₁₉ : q.answer ≡ Ok c) where
             tag_not : (xs ss fs : List ℕ) → Valid p xs ss fs → model.tag_full (world_of p xs) tag ≡ false
-            tag_not xs ss fs v =
-                cases (model.tag_full (world_of p xs) tag)
-                (λ f. let d = asked_full p xs ss fs v tag (2 * block) q o f in absurd (omega arith)) (λ f. f)
+            tag_not xs ss fs v = (asked_fits p xs ss fs v tag (2 * block) q o c t₁₉).0
 
             pub create_last : p.last ≡ top → CreateTested p id tag name 20
             unfolding first refuse
             create_last l =
-                tested 20 (λ z. omega arith)
+                tested LastNumber
                 (λ xs ss fs v.
-                let k = known_not p xs id i m e a t₁₄ in
+                let k = known_not p xs id t₁₄ in
                 simp (le-ltb _ _ t₁, k, named_not xs, few_not xs, tag_not xs ss fs v, eq-eqb _ _ (last_is p xs ∙ l)))
 
             module _ (t₂₀ : p.last ≡ top → ⊥) where
               last_not : (xs : List ℕ) → eqb (world_of p xs).last top ≡ false
               last_not xs = ne_eqb _ _ (λ z. t₂₀ (sym (last_is p xs) ∙ z))
 
-              cap_here : (xs ss fs : List ℕ) → Valid p xs ss fs → model.cap_fails (world_of p xs) tag (model.header_len (world_of p xs)) ≡ not q.fits
+              cap_here : (xs ss fs : List ℕ) → Valid p xs ss fs → model.cap_fails (world_of p xs) tag (model.header_len (world_of p xs)) ≡ not c
               cap_here xs ss fs v =
-                  ap (model.cap_fails (world_of p xs) tag) (sym (two_is p xs ss fs v block b₀)) ∙ asked_cap p xs ss fs v tag (2 * block) q o (tag_not xs ss fs v)
+                  ap (model.cap_fails (world_of p xs) tag) (sym (two_is p xs ss fs v block b₀)) ∙ (asked_fits p xs ss fs v tag (2 * block) q o c t₁₉).1
 
-              pub create_capped : q.fits ≡ false → CreateTested p id tag name 21
+              pub create_capped : c ≡ false → CreateTested p id tag name 21
               unfolding first refuse
               create_capped h =
-                  tested 21 (λ z. omega arith)
+                  tested OverCap
                   (λ xs ss fs v.
-                  let k = known_not p xs id i m e a t₁₄ in
+                  let k = known_not p xs id t₁₄ in
                   simp (le-ltb _ _ t₁, k, named_not xs, few_not xs, tag_not xs ss fs v, last_not xs, cap_here xs ss fs v ∙ ap not h))
 
-              pub create_passed : q.fits ≡ true → CreateTested p id tag name 0
+              pub create_passed : c ≡ true → CreateTested p id tag name 0
               create_passed h =
                   record {
                     told = λ xs ss fs v.
                         none_first _ (
                           pass_none 1 _ (le-ltb _ _ t₁),
                           (
-                            pass_none 14 _ (known_not p xs id i m e a t₁₄),
+                            pass_none 14 _ (known_not p xs id t₁₄),
                             (
                               pass_none 18 _ (named_not xs),
                               (
@@ -193,68 +202,77 @@ module _ (p : Plan) (id tag : ℕ) (name : List ℕ) where
 
 -- ---- the region that is added
 
-pub adds : (p : Plan) (id tag : ℕ) (name : List ℕ) (at : ℕ) (a : Accounting) (m : ℕ) → m ≡ length (regions_of p) → (bytes : List ℕ) → name_of bytes (length name) ≡ name
+pub adds : (p : Plan) (id tag : ℕ) (name : List ℕ) (at : ℕ) (a : Accounting) (m : ℕ) → m ≡ length (regions_of p) → (own : Name) → text_of own ≡ name
     → (block : ℕ) → block ≡ block_in p → (g : Region)
-    → g ≡ fresh (region_at p m).row id tag bytes (length name) p.limits.log2_block at block (p.last + 1)
+    → g ≡ fresh (region_at p m).row id tag own p.limits.log2_block at block (p.last + 1)
     → Adds p id tag name at a (record { limits = p.limits; last = p.last + 1; count = m + 1; regions = set p.regions m g; accounts = a })
-adds p id tag name at a m e bytes n block b g h = record { bytes = bytes; named = n; is = rw (h, b, e) }
+adds p id tag name at a m e own n block b g h = record { own = own; named = n; is = rw (h, b, e) }
 
 -- ---- the returns
 
-module _ (p : Plan) (xs ss fs : List ℕ) (id tag : ℕ) (name : List ℕ) (n : ℕ) (t : CreateTested p id tag name n) where
+module _ (p : Plan) (xs ss fs : List ℕ) (id tag : ℕ) (name : List ℕ) where
   abbrev c : model.Call
   c = model.create id tag name
 
-  abbrev Refuses : ℕ → Type 0
+  abbrev Refuses : Refusal → Type 0
   Refuses k = Called p c xs ss fs xs ss fs (refusing p k)
 
-  pub create_refused : (n ≡ 0 → ⊥) → Refuses n
+  pub create_refused : (e : Refusal) → CreateTested p id tag name (refusal_number e) → Refuses e
   unfolding model.refusal_to
-  create_refused d =
-      called_refused p c xs ss fs n
-      (λ v. (first_stop (model.create_tests (world_of p xs) id tag name) _ (λ z. d (sym (t.told xs ss fs v) ∙ z)) ∙ t.told xs ss fs v, d))
+  create_refused e t =
+      called_refused p c xs ss fs e
+      (λ v.
+      let h = reason_above e in
+      let k = t.told xs ss fs v in
+      first_stop (model.create_tests (world_of p xs) id tag name) _ (λ z. omega arith) ∙ k)
 
-  module _ (z : n ≡ 0) (block : ℕ) (b₀ : block ≡ block_in p) (found : Bool) (at : ℕ) (s : Seeks p (2 * block) xs found at) where
+  module _ (t : CreateTested p id tag name 0) (block : ℕ) (b₀ : block ≡ block_in p) (r₀ : Result (Option ℕ) Refusal) (s : Fits p (2 * block) xs r₀) where
     tests : (v : Valid p xs ss fs) → first (model.create_tests (world_of p xs) id tag name) ≡ 0
-    tests v = t.told xs ss fs v ∙ z
+    tests v = t.told xs ss fs v
 
     some_bytes : (v : Valid p xs ss fs) → 0 < 2 * block
     some_bytes v = let h = block_some (world_of p xs) in omega (arith, two_is p xs ss fs v block b₀)
 
-    pub create_no_room : found ≡ false → Refuses 22
+    -- the least free span, as it was looked for
+    least : (v : Valid p xs ss fs) → reply_of r₀ ≡ accepted (least_free (world_of p xs) (model.header_len (world_of p xs)))
+    least v = s.told ss fs v (some_bytes v) ∙ ap (λ (n : ℕ). accepted (least_free (world_of p xs) n)) (two_is p xs ss fs v block b₀)
+
+    pub create_lost : (e : Refusal) → r₀ ≡ Err e → Refuses e
+    create_lost e h = called_refused p c xs ss fs e (λ v. absurd (not_both _ _ (sym (least v) ∙ ap reply_of h)))
+
+    pub create_no_room : r₀ ≡ Ok None → Refuses NoRoom
     unfolding model.refusal_to model.room_fails refuse
     create_no_room h =
-        called_refused p c xs ss fs 22
+        called_refused p c xs ss fs NoRoom
         (λ v.
-        let k = s.nowhere ss fs v (some_bytes v) h in
-        let y : least_free (world_of p xs) (model.header_len (world_of p xs)) ≡ none = ap (least_free (world_of p xs)) (sym (two_is p xs ss fs v block b₀)) ∙ k in
-        (first_go (model.create_tests (world_of p xs) id tag name) _ (tests v) ∙ first_one _ ∙ rw y, λ z. omega arith))
+        let y : least_free (world_of p xs) (model.header_len (world_of p xs)) ≡ None = same_value _ _ (sym (least v) ∙ ap reply_of h) in
+        first_go (model.create_tests (world_of p xs) id tag name) _ (tests v) ∙ first_one _ ∙ rw y)
 
-    module _ (t₂₂ : found ≡ true) (q : Posted) (o : accounting.Posts p.accounts (accounting.on_row tag (add_usage 0 (2 * block))) q) where
+    module _ (at : ℕ) (t₂₂ : r₀ ≡ Ok (Some at)) (q : Posted) (o : accounting.Posts p.accounts (accounting.on_row tag (add_usage 0 (2 * block))) q) where
       -- the 97th tag was asked for before
       taken : (v : Valid p xs ss fs) → Taken p xs ss fs v tag (add_usage 0 (2 * block)) (λ r. refl) q
       taken v =
           posting_taken p xs ss fs v tag (add_usage 0 (2 * block)) (λ r. refl) q o (creates (world_of p xs) id tag name (tests v)).row
 
-      pub create_never : (q.refusal ≡ 0 → ⊥) → Refuses q.refusal
-      create_never d = called_refused p c xs ss fs q.refusal (λ v. absurd (d (taken v).number))
+      pub create_never : (e : Refusal) → q.answer ≡ Err e → Refuses e
+      create_never e h = called_refused p c xs ss fs e (λ v. absurd (no_error tt e (sym (taken v).number ∙ h)))
 
       module _ (r : Plan) (x : Adds p id tag name at q.accounts r) where
         abbrev m : ℕ
         m = length (regions_of p)
 
         abbrev g : Region
-        g = fresh (region_at p m).row id tag x.bytes (length name) p.limits.log2_block at (block_in p) (p.last + 1)
+        g = fresh (region_at p m).row id tag x.own p.limits.log2_block at (block_in p) (p.last + 1)
 
         abbrev p' : Plan
         p' = with_new p g q.accounts
 
         module _ (v : Valid p xs ss fs) where
-          placed : least_free (world_of p xs) (model.header_len (world_of p xs)) ≡ some at
-          placed = ap (least_free (world_of p xs)) (sym (two_is p xs ss fs v block b₀)) ∙ s.there ss fs v (some_bytes v) t₂₂
+          placed : least_free (world_of p xs) (model.header_len (world_of p xs)) ≡ Some at
+          placed = same_value _ _ (sym (least v) ∙ ap reply_of t₂₂)
 
           inside : m < length p.regions
-          inside = omega (arith, t.few z, v.full)
+          inside = omega (arith, t.few refl, v.full)
 
           region_next : region_of xs g ≡ model.created (world_of p xs) id tag name at
           unfolding world_of
@@ -291,19 +309,19 @@ module _ (p : Plan) (xs ss fs : List ℕ) (id tag : ℕ) (name : List ℕ) (n : 
                 lays = none_lays (row_in (region_at p m).row ss) (row_in (region_at p m).row fs);
               }
 
-          accepts : Accepts p c xs ss fs xs ss fs (At at) p' v
+          accepts : Accepts p c xs ss fs xs ss fs (Some at) p' v
           unfolding model.byte_for
           accepts =
               let k = created_next (world_of p xs) id tag name at (tests v) placed in
               let y = (accepted_is _ _ _ k.0).0 in
               record {
                 passes = y;
-                byte = ap accepted (sym placed);
+                byte = sym placed;
                 world = world_next ∙ sym k.1 ∙ next_accepted (world_of p xs) c y;
                 valid = λ so.
                     record {
                       full = length-set p.regions m g ∙ v.full;
-                      few = omega (arith, t.few z);
+                      few = omega (arith, t.few refl);
                       extents = v.extents;
                       starts = v.starts;
                       files = v.files;
@@ -324,5 +342,5 @@ module _ (p : Plan) (xs ss fs : List ℕ) (id tag : ℕ) (name : List ℕ) (n : 
                     };
               }
 
-        pub create_done : Called p c xs ss fs xs ss fs (record { reply = At at; plan = r })
-        create_done = rw x.is (called_accepted p c xs ss fs xs ss fs (At at) p' (at_no_refusal at) accepts)
+        pub create_done : Called p c xs ss fs xs ss fs (record { reply = Ok (Some at); plan = r })
+        create_done = rw x.is (called_accepted p c xs ss fs xs ss fs (Some at) p' accepts)

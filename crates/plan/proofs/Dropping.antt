@@ -1,4 +1,8 @@
 -- What each return of `drop` promises.
+use Rattle.numbers.proofs.Answers.{no_error}
+use Rattle.numbers.specs.declared.refusal.Refusal.TheVariants.{Unknown}
+use Rattle.numbers.specs.declared.refusal.Refusal.{Refusal}
+use Rattle.std.specs.Prelude.{Ok, Err, Some, None}
 use Prim.Native.Nat.{ℕ, suc, ◌+◌, ◌-◌, ◌*◌, ◌≤◌, ◌<◌}
 use mathlib.Core.Bool.{true}
 use mathlib.Core.List.{List, map}
@@ -10,11 +14,10 @@ use Rattle.numbers.specs.Lists.{All}
 use Rattle.numbers.specs.Refusals.{refuse, first}
 use Rattle.numbers.specs.Sums.{stop}
 use Rattle.plan_record.specs.Inner.{block_in}
-use Rattle.plan_record.specs.Plan.{region_of, regions_of, row_of, world_of, Mapped, Valid, spot_of, place_of}
+use Rattle.plan_record.specs.Plan.{region_of, regions_of, row_of, world_of, Mapped, Valid, spot_of, place_of, place_in}
 use Rattle.plan_record.specs.declared.Plan.{Plan}
 use Rattle.plan_record.specs.declared.Region.{Region}
-use Rattle.plan_record.specs.declared.Reply.TheVariants.{Done}
-use Rattle.plan.specs.Calls.{Called}
+use Rattle.plan.specs.Calls.{Changes}
 use Rattle.plan.specs.Inner.{refusing, rotated}
 use Rattle.tagspace.specs.Row.{remove_usage}
 use Rattle.model.proofs.Figures.{footprint-len, held_most}
@@ -23,38 +26,41 @@ use Rattle.model.proofs.Totals.{drop_physical, drop_logical, drop_held}
 use Rattle.numbers.proofs.Lists.{all_append, all_left, all_right}
 use Rattle.plan_record.proofs.Holding.{block_is}
 use Rattle.plan_record.proofs.Known.{region_at, numbers_same, known_here, known_not, region_is, mapped_is, counted_is, tagged_is}
-use Rattle.plan_record.proofs.Places.{without_place}
+use Rattle.plan_record.proofs.Places.{without_place, found_is}
 use Rattle.plan_record.proofs.Tags.{Taken, posting_taken, row_no_full, rows_stay, accounted_removed}
 use Rattle.plan.proofs.Capping.{with_accounts}
 use Rattle.plan.proofs.Moving.{counted_split, moved_front, moved_map, moved_length, moved_all, moved_distinct}
-use Rattle.plan.proofs.Refusing.{called_refused, called_accepted, Accepts, done_no_refusal}
+use Rattle.plan.proofs.Refusing.{called_refused, called_accepted, Accepts}
 use Rattle.accounting.specs.Table as accounting
 use Rattle.model.specs.Calls as model
 use Rattle.model.specs.Region as region
 use Rattle.model.specs.World as world
 
-module _ (p : Plan) (xs ss fs : List ℕ) (id i m : ℕ) (e : i ≡ spot_of p id) (a : m ≡ length (regions_of p)) where
-  pub drop_unknown : m ≤ i → Called p (model.drop id) xs ss fs xs ss fs (refusing p 16)
+module _ (p : Plan) (id : ℕ) where
+  pub drop_unknown : place_in p id ≡ None → Changes p (model.drop id) (refusing p Unknown)
   unfolding model.refusal_to first refuse
-  drop_unknown l = called_refused p (model.drop id) xs ss fs 16 (λ v. let k = known_not p xs id i m e a l in (simp k, λ z. omega arith))
+  drop_unknown e = record { called = λ xs ss fs. called_refused p (model.drop id) xs ss fs Unknown (λ v. let k = known_not p xs id e in simp k) }
 
-  module _ (l : i < m) (two len : ℕ) (t₀ : two ≡ 2 * block_in p) (n₀ : len ≡ stop (two + (region_at p i).map.capacity)) (q : Posted)
+  module _ (i : ℕ) (f₀ : place_in p id ≡ Some i) (two len : ℕ) (t₀ : two ≡ 2 * block_in p) (n₀ : len ≡ stop ((region_at p i).map.capacity + two)) (q : Posted)
       (o : accounting.Posts p.accounts (accounting.on_row (region_at p i).tag (remove_usage (region_at p i).map.len len)) q) where
     abbrev g : Region
     g = region_at p i
 
+    e : i ≡ spot_of p id
+    e = (found_is p id i f₀).0
+
     inside : i < length (regions_of p)
-    inside = omega arith
+    inside = (found_is p id i f₀).1
 
     abbrev p' : Plan
     p' = rotated (with_accounts p q.accounts) i
 
-    module _ (v : Valid p xs ss fs) where
+    module _ (xs ss fs : List ℕ) (v : Valid p xs ss fs) where
       abbrev w : world.World
       w = world_of p xs
 
       known_region : model.known w id ≡ true
-      known_region = known_here p xs id i m e a l
+      known_region = known_here p xs id i f₀
 
       taken : Taken p xs ss fs v g.tag (remove_usage g.map.len len) (λ r. refl) q
       taken = posting_taken p xs ss fs v g.tag _ (λ r. refl) q o (row_no_full w g.tag (tagged_is p xs ss fs v i inside))
@@ -111,7 +117,7 @@ module _ (p : Plan) (xs ss fs : List ℕ) (id i m : ℕ) (e : i ≡ spot_of p id
           (all_append (Mapped xs ss fs) (take i p.regions) (take (n - suc i) (drop (suc i) p.regions))
           (all_left (Mapped xs ss fs) (take i p.regions) _ b) (all_right (Mapped xs ss fs) (take i p.regions) _ b).1)
 
-      accepts : Accepts p (model.drop id) xs ss fs xs ss fs Done p' v
+      accepts : Accepts p (model.drop id) xs ss fs xs ss fs None p' v
       unfolding model.refusal_to first refuse model.byte_for model.accept
       accepts =
           record {
@@ -134,8 +140,9 @@ module _ (p : Plan) (xs ss fs : List ℕ) (id i m : ℕ) (e : i ≡ spot_of p id
                 };
           }
 
-    pub drop_never : (q.refusal ≡ 0 → ⊥) → Called p (model.drop id) xs ss fs xs ss fs (refusing p q.refusal)
-    drop_never n = called_refused p (model.drop id) xs ss fs q.refusal (λ v. absurd (n (taken v).number))
+    pub drop_never : (n : Refusal) → q.answer ≡ Err n → Changes p (model.drop id) (refusing p n)
+    drop_never n h =
+        record { called = λ xs ss fs. called_refused p (model.drop id) xs ss fs n (λ v. absurd (no_error tt n (sym (taken xs ss fs v).number ∙ h))) }
 
-    pub drop_done : Called p (model.drop id) xs ss fs xs ss fs (record { reply = Done; plan = p' })
-    drop_done = called_accepted p (model.drop id) xs ss fs xs ss fs Done p' done_no_refusal accepts
+    pub drop_done : Changes p (model.drop id) (record { reply = Ok None; plan = p' })
+    drop_done = record { called = λ xs ss fs. called_accepted p (model.drop id) xs ss fs xs ss fs None p' (accepts xs ss fs) }

@@ -1,16 +1,20 @@
 -- What each return of `grow` promises.
+use Rattle.plan_record.proofs.Places.{found_is}
+use Rattle.plan_record.specs.Promises.{Fits}
+use Rattle.numbers.specs.declared.refusal.Refusal.TheVariants.{Lists, Full, OverCap, NoRoom, SlotGrows, Unknown}
+use Rattle.numbers.specs.declared.refusal.Refusal.{Refusal}
 use Prim.Native.Nat.{ℕ, ◌+◌, ◌-◌, ◌*◌, ◌≤◌, ◌<◌, min}
 use mathlib.Core.Bool.{Bool, true, false, not}
 use mathlib.Core.List.{List, [], ◌∷◌, ◌++◌}
 use mathlib.Core.Logic.{inl, inr}
-use mathlib.Core.Option.{some, none}
+use Rattle.std.specs.Prelude.{Some, None, Ok, Err, Result, Option}
 use mathlib.Core.Path.{◌≡◌, refl, ap, sym, subst, ◌∙◌}
 use native.Mathlib.Numerals.{add-one}
 use native.Mathlib.Omega.{arith}
 use lib.Dec.{eqb, leb}
-use lib.ListN.{length, take, set, get_or}
+use lib.ListN.{length, take, set, get_or, length-take}
 use lib.Seq.{take-suc-set, length-take-le, get_or-set_same}
-use borrow.Author.Tests.{le-leb, lt-leb}
+use borrow.Author.Tests.{le-leb, lt-leb, lt-ltb}
 use borrow.Rule.Slice.PartMut.{mid_of, put_mid, put_same}
 use Rattle.accounting.specs.declared.Asked.{Asked}
 use Rattle.accounting.specs.declared.Posted.{Posted}
@@ -19,16 +23,14 @@ use Rattle.footprint.specs.declared.RegionKind.TheVariants.{Slot}
 use Rattle.model.specs.Span.{least_free}
 use Rattle.numbers.specs.Pairs.{pairs}
 use Rattle.numbers.specs.Range.{range}
-use Rattle.numbers.specs.Refusals.{refuse, first, accepted}
+use Rattle.numbers.specs.Refusals.{refuse, first, accepted, refusal_number}
 use Rattle.numbers.specs.Sums.{top, stop}
 use Rattle.plan_record.specs.Inner.{block_in}
-use Rattle.plan_record.specs.Plan.{row_in, places, lists_short, region_of, regions_of, world_of, Mapped, Valid, spot_of, past_region}
+use Rattle.plan_record.specs.Plan.{row_in, places, lists_short, region_of, regions_of, world_of, Mapped, Valid, spot_of, place_in, past_region, reply_of}
 use Rattle.plan_record.specs.declared.Plan.{Plan}
 use Rattle.plan_record.specs.declared.Region.{Region}
-use Rattle.plan_record.specs.declared.Reply.TheVariants.{At}
 use Rattle.plan.specs.Calls.{Called, Grows, OnePlace}
-use Rattle.plan.specs.Inner.{refusing, Seeks, stretched, len_at, GrowTested}
-use Rattle.regionmap.specs.declared.Mapped.{Mapped as Answered}
+use Rattle.plan.specs.Inner.{refusing, stretched, len_at, GrowTested}
 use Rattle.regionmap.specs.declared.RegionMap.{RegionMap}
 use Rattle.sort.specs.Places.{range_of, Put}
 use Rattle.sort.specs.declared.pair.Pair.{Pair}
@@ -39,16 +41,16 @@ use Rattle.model.proofs.Regions.{known_true, if_tag}
 use Rattle.model.proofs.Spans.{least_found}
 use Rattle.model.proofs.Steps.{grown_next, next_accepted}
 use Rattle.model.proofs.Totals.{grow_physical, grow_logical, drop_held}
-use Rattle.numbers.proofs.Answers.{accepted_is, answer_value, same_value, not_both}
+use Rattle.numbers.proofs.Answers.{accepted_is, answer_value, same_value, not_both, no_error}
 use Rattle.numbers.proofs.Cases.{clash}
-use Rattle.numbers.proofs.Refusals.{none_first, pass_none, first_go, first_stop, first_one}
+use Rattle.numbers.proofs.Refusals.{none_first, pass_none, first_go, first_stop, first_one, reason_above}
 use Rattle.plan_record.proofs.Changing.{Stays, with_region, world_changed, changed_valid}
 use Rattle.plan_record.proofs.Holding.{block_is}
-use Rattle.plan_record.proofs.Known.{region_at, known_here, known_not, region_is, mapped_is, row_is, rows_differ, counted_is, tagged_is}
+use Rattle.plan_record.proofs.Known.{region_at, known_is, known_not, region_is, mapped_is, row_is, rows_differ, counted_is, tagged_is}
 use Rattle.plan_record.proofs.Rows.{row_length, row_own, row_held}
 use Rattle.plan_record.proofs.Tags.{Taken, posting_taken, row_no_full, rows_stay, accounted_added, if_none}
-use Rattle.plan.proofs.Asking.{asked_cap}
-use Rattle.plan.proofs.Refusing.{called_refused, called_accepted, Accepts, at_no_refusal, valid_long}
+use Rattle.plan.proofs.Asking.{asked_full, asked_fits}
+use Rattle.plan.proofs.Refusing.{called_refused, called_accepted, Accepts, valid_long}
 use Rattle.plan.proofs.Slots.{few_not, place_length, place_other, place_one, place_row}
 use Rattle.regionmap.proofs.ByExtents.{extend_goes}
 use Rattle.regionmap.proofs.Bytes.{lays_extended}
@@ -58,17 +60,16 @@ use Rattle.model.specs.Calls as model
 use Rattle.model.specs.Region as region
 use Rattle.model.specs.World as world
 use Rattle.regionmap.specs.Map as regionmap
-use Rattle.regionmap.specs.declared.Mapped.TheVariants as mapped
 
 -- a refused grow leaves the lists
 module _ (p : Plan) (id : ℕ) (xs ss fs : List ℕ) where
-  pub grows_refused : {n : ℕ} → lists_short xs ss fs ≡ false → Called p (model.grow id) xs ss fs xs ss fs (refusing p n) → Grows p (model.grow id) id xs ss fs xs ss fs (refusing p n)
+  pub grows_refused : {n : Refusal} → lists_short xs ss fs ≡ false → Called p (model.grow id) xs ss fs xs ss fs (refusing p n) → Grows p (model.grow id) id xs ss fs xs ss fs (refusing p n)
   grows_refused h k = record { called = k; short = λ z. clash z h; extents = inl refl; starts = inl refl; files = inl refl; odd = refl }
 
-  pub grows_short : lists_short xs ss fs ≡ true → Grows p (model.grow id) id xs ss fs xs ss fs (refusing p 1)
+  pub grows_short : lists_short xs ss fs ≡ true → Grows p (model.grow id) id xs ss fs xs ss fs (refusing p Lists)
   grows_short h =
       record {
-        called = called_refused p (model.grow id) xs ss fs 1 (λ v. clash h (valid_long xs ss fs p v));
+        called = called_refused p (model.grow id) xs ss fs Lists (λ v. clash h (valid_long xs ss fs p v));
         short = λ z. refl;
         extents = inl refl;
         starts = inl refl;
@@ -87,7 +88,7 @@ module _ (p : Plan) (xs ss fs : List ℕ) (v : Valid p xs ss fs) (i : ℕ) (insi
   own = model.region_in (world_of p xs) id
 
   known_region : model.known (world_of p xs) id ≡ true
-  known_region = known_here p xs id i (length (regions_of p)) e refl inside
+  known_region = known_is p xs id ∙ lt-ltb (spot_of p id) (length (regions_of p)) (omega arith)
 
   region_here : own ≡ region_of xs (region_at p i)
   region_here = region_is p xs i inside id e
@@ -111,31 +112,35 @@ module _ (p : Plan) (xs ss fs : List ℕ) (v : Valid p xs ss fs) (i : ℕ) (insi
   few : (region_at p i).extent_count < 60 → leb 60 (length own.extents) ≡ false
   few l = let n = count_is in lt-leb 60 (length own.extents) (omega arith)
 
-  cap_here : (q : Asked) → accounting.Asks p.accounts (region_at p i).tag (len_at p i) q → model.cap_fails (world_of p xs) own.tag (model.step_len (world_of p xs) own) ≡ not q.fits
-  cap_here q o =
+  tag_not : model.tag_full (world_of p xs) (region_at p i).tag ≡ false
+  tag_not = row_no_full (world_of p xs) (region_at p i).tag (tagged_is p xs ss fs v i inside)
+
+  cap_here : (q : Asked) → accounting.Asks p.accounts (region_at p i).tag (len_at p i) q → (b : Bool) → q.answer ≡ Ok b
+      → model.cap_fails (world_of p xs) own.tag (model.step_len (world_of p xs) own) ≡ not b
+  cap_here q o b h =
       ap (λ (r : region.Region). model.cap_fails (world_of p xs) r.tag (model.step_len (world_of p xs) own)) region_here
       ∙ ap (model.cap_fails (world_of p xs) (region_at p i).tag) (sym len_is)
-      ∙ asked_cap p xs ss fs v (region_at p i).tag (len_at p i) q o (row_no_full (world_of p xs) (region_at p i).tag (tagged_is p xs ss fs v i inside))
+      ∙ (asked_fits p xs ss fs v (region_at p i).tag (len_at p i) q o b h).1
 
 -- ---- the tests before that of room
 
 module _ (p : Plan) (i : ℕ) (inside : i < length (regions_of p)) where
-  tested : (n : ℕ) → (n ≡ 0 → ⊥)
-      → ((xs ss fs : List ℕ) → Valid p xs ss fs → (id : ℕ) → i ≡ spot_of p id → first (model.grow_tests (world_of p xs) id) ≡ n) → GrowTested p i n
-  tested n d t = record { told = t; few = λ z. absurd (d z) }
+  tested : (e : Refusal)
+      → ((xs ss fs : List ℕ) → Valid p xs ss fs → (id : ℕ) → i ≡ spot_of p id → first (model.grow_tests (world_of p xs) id) ≡ refusal_number e) → GrowTested p i (refusal_number e)
+  tested e t = record { told = t; few = λ z. absurd (let h = reason_above e in omega arith) }
 
   module _ (b : Bool) (b₀ : b ≡ eqb (kind_code (region_at p i).kind) (kind_code Slot)) where
     pub grow_slot : b ≡ true → GrowTested p i 17
     unfolding first refuse
     grow_slot h =
-        tested 17 (λ z. omega arith)
+        tested SlotGrows
         (λ xs ss fs v id e. simp (known_region p xs ss fs v i inside id e, slot_is p xs ss fs v i inside id e ∙ sym b₀ ∙ h))
 
     module _ (t₁₇ : b ≡ false) where
       pub grow_full : 60 ≤ (region_at p i).extent_count → GrowTested p i 19
       unfolding first refuse
       grow_full h =
-          tested 19 (λ z. omega arith)
+          tested Full
           (λ xs ss fs v id e.
           let n = count_is p xs ss fs v i inside id e in
           let q : 60 ≤ length (model.region_in (world_of p xs) id).extents = omega arith in
@@ -145,64 +150,78 @@ module _ (p : Plan) (i : ℕ) (inside : i < length (regions_of p)) where
         o : accounting.Asks p.accounts (region_at p i).tag (len_at p i) q
         o = subst (λ (n : ℕ). accounting.Asks p.accounts (region_at p i).tag n q) l₀ o₀
 
-        pub grow_capped : q.fits ≡ false → GrowTested p i 21
-        unfolding first refuse
-        grow_capped h =
-            tested 21 (λ z. omega arith)
-            (λ xs ss fs v id e.
-            simp (
-              known_region p xs ss fs v i inside id e,
-              slot_is p xs ss fs v i inside id e ∙ sym b₀ ∙ t₁₇,
-              few p xs ss fs v i inside id e t₁₉,
-              cap_here p xs ss fs v i inside id e q o ∙ ap not h,
-            ))
+        -- the tag has a row, so it is no 97th
+        pub grow_tags : (e : Refusal) → q.answer ≡ Err e → GrowTested p i (refusal_number e)
+        grow_tags e h =
+            tested e
+            (λ xs ss fs v id y.
+            absurd (clash (asked_full p xs ss fs v (region_at p i).tag (len_at p i) q o e h).0 (tag_not p xs ss fs v i inside id y)))
 
-        pub grow_passed : q.fits ≡ true → GrowTested p i 0
-        grow_passed h =
-            record {
-              told = λ xs ss fs v id e.
-                  none_first _ (
-                    pass_none 16 _ (ap not (known_region p xs ss fs v i inside id e)),
-                    (
-                      pass_none 17 _ (slot_is p xs ss fs v i inside id e ∙ sym b₀ ∙ t₁₇),
-                      (pass_none 19 _ (few p xs ss fs v i inside id e t₁₉), (pass_none 21 _ (cap_here p xs ss fs v i inside id e q o ∙ ap not h), tt)),
-                    ),
-                  );
-              few = λ z. t₁₉;
-            }
+        module _ (c : Bool) (a : q.answer ≡ Ok c) where
+          pub grow_capped : c ≡ false → GrowTested p i 21
+          unfolding first refuse
+          grow_capped h =
+              tested OverCap
+              (λ xs ss fs v id e.
+              simp (
+                known_region p xs ss fs v i inside id e,
+                slot_is p xs ss fs v i inside id e ∙ sym b₀ ∙ t₁₇,
+                few p xs ss fs v i inside id e t₁₉,
+                cap_here p xs ss fs v i inside id e q o c a ∙ ap not h,
+              ))
+
+          pub grow_passed : c ≡ true → GrowTested p i 0
+          grow_passed h =
+              record {
+                told = λ xs ss fs v id e.
+                    none_first _ (
+                      pass_none 16 _ (ap not (known_region p xs ss fs v i inside id e)),
+                      (
+                        pass_none 17 _ (slot_is p xs ss fs v i inside id e ∙ sym b₀ ∙ t₁₇),
+                        (pass_none 19 _ (few p xs ss fs v i inside id e t₁₉), (pass_none 21 _ (cap_here p xs ss fs v i inside id e q o c a ∙ ap not h), tt)),
+                      ),
+                    );
+                few = λ z. t₁₉;
+              }
 
 -- ---- the returns
 
-module _ (p : Plan) (xs ss fs : List ℕ) (id i m : ℕ) (e : i ≡ spot_of p id) (a : m ≡ length (regions_of p)) where
+module _ (p : Plan) (xs ss fs : List ℕ) (id : ℕ) where
   abbrev c : model.Call
   c = model.grow id
 
-  abbrev Refuses : ℕ → Type 0
+  abbrev Refuses : Refusal → Type 0
   Refuses n = Called p c xs ss fs xs ss fs (refusing p n)
 
-  pub grow_unknown : m ≤ i → Refuses 16
+  pub grow_unknown : place_in p id ≡ None → Refuses Unknown
   unfolding model.refusal_to first refuse
-  grow_unknown l = called_refused p c xs ss fs 16 (λ v. let k = known_not p xs id i m e a l in (simp k, λ z. omega arith))
+  grow_unknown e = called_refused p c xs ss fs Unknown (λ v. let k = known_not p xs id e in simp k)
 
-  module _ (l : i < m) (n : ℕ) (t : GrowTested p i n) where
+  module _ (i : ℕ) (f₀ : place_in p id ≡ Some i) where
     abbrev g : Region
     g = region_at p i
 
+    e : i ≡ spot_of p id
+    e = (found_is p id i f₀).0
+
     inside : i < length (regions_of p)
-    inside = omega arith
+    inside = (found_is p id i f₀).1
 
-    pub grow_refused : (n ≡ 0 → ⊥) → Refuses n
+    pub grow_refused : (n : Refusal) → GrowTested p i (refusal_number n) → Refuses n
     unfolding model.refusal_to
-    grow_refused d =
+    grow_refused n t =
         called_refused p c xs ss fs n
-        (λ v. (first_stop (model.grow_tests (world_of p xs) id) _ (λ z. d (sym (t.told xs ss fs v id e) ∙ z)) ∙ t.told xs ss fs v id e, d))
+        (λ v.
+        let h = reason_above n in
+        let k = t.told xs ss fs v id e in
+        first_stop (model.grow_tests (world_of p xs) id) _ (λ z. omega arith) ∙ k)
 
-    module _ (z : n ≡ 0) (len : ℕ) (l₀ : len ≡ len_at p i) (found : Bool) (at : ℕ) (s : Seeks p len xs found at) where
+    module _ (t : GrowTested p i 0) (len : ℕ) (l₀ : len ≡ len_at p i) (r₀ : Result (Option ℕ) Refusal) (s : Fits p len xs r₀) where
       t₁₉ : g.extent_count < 60
-      t₁₉ = t.few z
+      t₁₉ = t.few refl
 
       tests : (v : Valid p xs ss fs) → first (model.grow_tests (world_of p xs) id) ≡ 0
-      tests v = t.told xs ss fs v id e ∙ z
+      tests v = t.told xs ss fs v id e
 
       len_here : (v : Valid p xs ss fs) → len ≡ model.step_len (world_of p xs) (model.region_in (world_of p xs) id)
       len_here v = l₀ ∙ len_is p xs ss fs v i inside id e
@@ -210,21 +229,27 @@ module _ (p : Plan) (xs ss fs : List ℕ) (id i m : ℕ) (e : i ≡ spot_of p id
       some_bytes : (v : Valid p xs ss fs) → 0 < len
       some_bytes v = let h = step_len_some (world_of p xs) (model.region_in (world_of p xs) id) in omega (arith, len_here v)
 
-      pub grow_no_room : found ≡ false → Refuses 22
+      -- the least free span, as it was looked for
+      least : (v : Valid p xs ss fs) → reply_of r₀ ≡ accepted (least_free (world_of p xs) (model.step_len (world_of p xs) (model.region_in (world_of p xs) id)))
+      least v = s.told ss fs v (some_bytes v) ∙ ap (λ (n : ℕ). accepted (least_free (world_of p xs) n)) (len_here v)
+
+      pub grow_lost : (n : Refusal) → r₀ ≡ Err n → Refuses n
+      grow_lost n h = called_refused p c xs ss fs n (λ v. absurd (not_both _ _ (sym (least v) ∙ ap reply_of h)))
+
+      pub grow_no_room : r₀ ≡ Ok None → Refuses NoRoom
       unfolding model.refusal_to model.room_fails refuse
       grow_no_room h =
-          called_refused p c xs ss fs 22
+          called_refused p c xs ss fs NoRoom
           (λ v.
-          let k = s.nowhere ss fs v (some_bytes v) h in
-          let y : least_free (world_of p xs) (model.step_len (world_of p xs) (model.region_in (world_of p xs) id)) ≡ none = ap (least_free (world_of p xs)) (sym (len_here v)) ∙ k in
-          (first_go (model.grow_tests (world_of p xs) id) _ (tests v) ∙ first_one _ ∙ rw y, λ z. omega arith))
+          let y : least_free (world_of p xs) (model.step_len (world_of p xs) (model.region_in (world_of p xs) id)) ≡ None = same_value _ _ (sym (least v) ∙ ap reply_of h) in
+          first_go (model.grow_tests (world_of p xs) id) _ (tests v) ∙ first_one _ ∙ rw y)
 
-      module _ (t₂₂ : found ≡ true) (q : Posted) (o : accounting.Posts p.accounts (accounting.on_row g.tag (add_usage 0 len)) q) where
+      module _ (at : ℕ) (t₂₂ : r₀ ≡ Ok (Some at)) (q : Posted) (o : accounting.Posts p.accounts (accounting.on_row g.tag (add_usage 0 len)) q) where
         taken : (v : Valid p xs ss fs) → Taken p xs ss fs v g.tag (add_usage 0 len) (λ r. refl) q
         taken v = posting_taken p xs ss fs v g.tag _ (λ r. refl) q o (row_no_full (world_of p xs) g.tag (tagged_is p xs ss fs v i inside))
 
-        pub grow_never : (q.refusal ≡ 0 → ⊥) → Refuses q.refusal
-        grow_never d = called_refused p c xs ss fs q.refusal (λ v. absurd (d (taken v).number))
+        pub grow_never : (n : Refusal) → q.answer ≡ Err n → Refuses n
+        grow_never n h = called_refused p c xs ss fs n (λ v. absurd (no_error tt n (sym (taken v).number ∙ h)))
 
         known_at : (v : Valid p xs ss fs) → model.known (world_of p xs) id ≡ true
         known_at v = known_region p xs ss fs v i inside id e
@@ -232,7 +257,7 @@ module _ (p : Plan) (xs ss fs : List ℕ) (id i m : ℕ) (e : i ≡ spot_of p id
         region-at : (v : Valid p xs ss fs) → model.region_in (world_of p xs) id ≡ region_of xs g
         region-at v = region_here p xs ss fs v i inside id e
 
-        module _ (j : ℕ) (j₀ : j ≡ min g.row 63) (long : places ≤ length ss) (longer : places ≤ length fs) (ss₁ fs₁ : List ℕ) (r' : Answered) where
+        module _ (j : ℕ) (j₀ : j ≡ min g.row 63) (long : places ≤ length ss) (longer : places ≤ length fs) (ss₁ fs₁ : List ℕ) (r' : Result RegionMap Refusal) where
           abbrev part_of : List ℕ → List ℕ
           part_of l = mid_of (60 * j) (60 * j + 60 - 60 * j) l
 
@@ -265,8 +290,8 @@ module _ (p : Plan) (xs ss fs : List ℕ) (id i m : ℕ) (e : i ≡ spot_of p id
               j_is : j ≡ g.row
               j_is = let h = row_here in omega arith
 
-              placed : least_free w (model.step_len w (model.region_in w id)) ≡ some at
-              placed = ap (least_free w) (sym (len_here v)) ∙ s.there ss fs v (some_bytes v) t₂₂
+              placed : least_free w (model.step_len w (model.region_in w id)) ≡ Some at
+              placed = same_value _ _ (sym (least v) ∙ ap reply_of t₂₂)
 
               ends_low : at + len ≤ top
               unfolding world_of
@@ -305,7 +330,7 @@ module _ (p : Plan) (xs ss fs : List ℕ) (id i m : ℕ) (e : i ≡ spot_of p id
               answered = x.answer valid_part ∙ answer_value _ _ goes
 
             -- the room is never short
-            pub grow_stuck : (k : ℕ) → r' ≡ mapped.Refused k → lists_short xs ss fs ≡ false → Grows p c id xs ss fs xs ss' fs' (refusing p 19)
+            pub grow_stuck : (k : Refusal) → r' ≡ Err k → lists_short xs ss fs ≡ false → Grows p c id xs ss fs xs ss' fs' (refusing p k)
             grow_stuck k w₀ h =
                 let y : ss₁ ≡ part_of ss = x.starts ∙ rw w₀ in
                 let z : fs₁ ≡ part_of fs = x.files ∙ rw w₀ in
@@ -313,9 +338,9 @@ module _ (p : Plan) (xs ss fs : List ℕ) (id i m : ℕ) (e : i ≡ spot_of p id
                 let b' : fs' ≡ fs = ap (put_mid (60 * j) (60 * j + 60 - 60 * j) fs) z ∙ put_same (60 * j) (60 * j + 60 - 60 * j) fs in
                 rw (a', b')
                 (grows_refused p id xs ss fs h
-                (called_refused p c xs ss fs 19 (λ v. absurd (not_both _ k (sym (answered v) ∙ ap (λ (u : Answered). regionmap.outcome_of u ss₁ fs₁) w₀)))))
+                (called_refused p c xs ss fs k (λ v. absurd (not_both _ _ (sym (answered v) ∙ ap (λ (u : Result RegionMap Refusal). regionmap.outcome_of u ss₁ fs₁) w₀)))))
 
-            module _ (next : RegionMap) (w₀ : r' ≡ mapped.Map next) (xs' : List ℕ) (pr : Pair) (pr₀ : range_of pr ≡ range at len) (u : Put xs (60 * j + g.extent_count) pr xs') where
+            module _ (next : RegionMap) (w₀ : r' ≡ Ok next) (xs' : List ℕ) (pr : Pair) (pr₀ : range_of pr ≡ range at len) (u : Put xs (60 * j + g.extent_count) pr xs') where
               abbrev g' : Region
               g' = stretched g next at len
 
@@ -330,7 +355,7 @@ module _ (p : Plan) (xs ss fs : List ℕ) (id i m : ℕ) (e : i ≡ spot_of p id
 
               module _ (v : Valid p xs ss fs) where
                 placement_next : regionmap.placement_of next ss₁ fs₁ ≡ regionmap.extended (regionmap.placement_of g.map (part_of ss) (part_of fs)) at len
-                placement_next = same_value _ _ (sym (ap (λ (y : Answered). regionmap.outcome_of y ss₁ fs₁) w₀) ∙ answered v)
+                placement_next = same_value _ _ (sym (ap (λ (y : Result RegionMap Refusal). regionmap.outcome_of y ss₁ fs₁) w₀) ∙ answered v)
 
                 starts_row : row_in g.row ss' ≡ ss₁
                 starts_row = ap (λ (k : ℕ). row_in k ss') (sym (j_is v)) ∙ place_row ss j below long (regionmap.takes_place g.map r') g.map.count g.map.capacity ss₁ x.starts
@@ -351,7 +376,7 @@ module _ (p : Plan) (xs ss fs : List ℕ) (id i m : ℕ) (e : i ≡ spot_of p id
                       room = ap (λ (y : regionmap.Placement). y.room) placement_next ∙ (mapped_here v).room;
                       valid =
                           rw (starts_row, files_row)
-                          (subst (λ (y : Answered). regionmap.HandsValid y ss₁ fs₁) w₀ (x.valid (valid_part v)));
+                          (subst (λ (y : Result RegionMap Refusal). regionmap.HandsValid y ss₁ fs₁) w₀ (x.valid (valid_part v)));
                       lays =
                           rw (starts_row, files_row, extents_next, placement_next)
                           (lays_extended _ _ at len (some_run g.map (part_of ss) (part_of fs)) (lays_part v) (some_bytes v) (whole_low v) (ends_low v));
@@ -378,7 +403,7 @@ module _ (p : Plan) (xs ss fs : List ℕ) (id i m : ℕ) (e : i ≡ spot_of p id
                     world_changed p xs ss fs v i inside g' q.accounts xs' ss' fs' others id _ e region_next
                     (rows_stay p xs ss fs v g.tag _ (λ r. refl) (tagged_is p xs ss fs v i inside) q.accounts (taken v).table)
 
-                accepts : Accepts p c xs ss fs xs' ss' fs' (At at) p' v
+                accepts : Accepts p c xs ss fs xs' ss' fs' (Some at) p' v
                 unfolding model.byte_for
                 accepts =
                     let n = grown_next (w v) id at (tests v) (placed v) in
@@ -386,7 +411,7 @@ module _ (p : Plan) (xs ss fs : List ℕ) (id i m : ℕ) (e : i ≡ spot_of p id
                     let k = known_true (w v) id (known_at v) in
                     record {
                       passes = z;
-                      byte = ap accepted (sym (placed v));
+                      byte = sym (placed v);
                       world = world_next ∙ sym n.1 ∙ next_accepted (w v) c z;
                       valid = λ so.
                           changed_valid p xs ss fs v i inside g' q.accounts xs' ss' fs' others refl mapped_next
@@ -405,16 +430,17 @@ module _ (p : Plan) (xs ss fs : List ℕ) (id i m : ℕ) (e : i ≡ spot_of p id
                     }
 
               -- the row in the plan handed back
-              named_row : length p.regions ≡ 64 → m ≤ 64 → j ≡ min (get_or p'.regions (spot_of p id) past_region).row 63
-              named_row f n =
+              named_row : length p.regions ≡ 64 → j ≡ min (get_or p'.regions (spot_of p id) past_region).row 63
+              named_row f =
+                  let n = length-take p.count p.regions in
                   j₀ ∙ ap (λ (y : Region). min y.row 63)
-                  (sym (ap (λ (k : ℕ). get_or (set p.regions i g') k past_region) (sym e) ∙ get_or-set_same p.regions i g' past_region (omega arith)))
+                  (sym (ap (λ (k : ℕ). get_or (set p.regions i g') k past_region) (sym e) ∙ get_or-set_same p.regions i g' past_region (omega (arith, inside))))
 
-              pub grow_done : length p.regions ≡ 64 → m ≤ 64 → lists_short xs ss fs ≡ false → Grows p c id xs ss fs xs' ss' fs' (record { reply = At at; plan = p' })
-              grow_done f n h =
-                  let k = named_row f n in
+              pub grow_done : length p.regions ≡ 64 → lists_short xs ss fs ≡ false → Grows p c id xs ss fs xs' ss' fs' (record { reply = Ok (Some at); plan = p' })
+              grow_done f h =
+                  let k = named_row f in
                   record {
-                    called = called_accepted p c xs ss fs xs' ss' fs' (At at) p' (at_no_refusal at) accepts;
+                    called = called_accepted p c xs ss fs xs' ss' fs' (Some at) p' accepts;
                     short = λ z. clash z h;
                     extents = subst (λ (y : ℕ). OnePlace y (pairs xs) (pairs xs')) k extents_one;
                     starts = subst (λ (y : ℕ). OnePlace y ss ss') k starts_one;

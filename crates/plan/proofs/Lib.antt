@@ -5,7 +5,6 @@ pub mod Capping
 pub mod Moving
 pub mod Dropping
 pub mod Stepping
-pub mod Seeking
 pub mod Asking
 pub mod Creating
 pub mod Slots

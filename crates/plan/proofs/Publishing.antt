@@ -1,4 +1,8 @@
 -- What each return of `publish` promises.
+use Rattle.plan_record.proofs.Places.{found_is}
+use Rattle.numbers.specs.declared.refusal.Refusal.TheVariants.{Unknown, NoMultiple}
+use Rattle.numbers.specs.declared.refusal.Refusal.{Refusal}
+use Rattle.std.specs.Prelude.{Ok, Err, Some, None, Result}
 use Prim.Native.Nat.{ℕ, ◌+◌, ◌-◌, ◌%◌, ◌^◌, ◌≤◌, ◌<◌, min, max}
 use mathlib.Core.Bool.{true}
 use mathlib.Core.List.{List, []}
@@ -10,45 +14,43 @@ use lib.ListN.{length}
 use borrow.Author.Tests.{eq-eqb, ne_eqb, lt-ltb, le-ltb}
 use Rattle.accounting.specs.declared.Posted.{Posted}
 use Rattle.model.specs.Calls.{publish, known, region_in, refusal_to, byte_for, accept, published_to, published_at}
-use Rattle.numbers.specs.Refusals.{refuse, first}
-use Rattle.plan_record.specs.Plan.{row_in, region_of, regions_of, world_of, Mapped, Valid, spot_of}
+use Rattle.numbers.specs.Refusals.{refuse, first, refusal_number, answer, refused}
+use Rattle.plan_record.specs.Plan.{row_in, region_of, regions_of, world_of, Mapped, Valid, spot_of, place_in}
 use Rattle.plan_record.specs.declared.Plan.{Plan}
 use Rattle.plan_record.specs.declared.Region.{Region}
-use Rattle.plan_record.specs.declared.Reply.TheVariants.{Done}
 use Rattle.plan.specs.Calls.{Changes}
 use Rattle.plan.specs.Inner.{refusing}
-use Rattle.regionmap.specs.declared.Mapped.{Mapped as Answered}
 use Rattle.regionmap.specs.declared.RegionMap.{RegionMap}
 use Rattle.tagspace.specs.Row.{add_usage}
 use Rattle.model.proofs.Regions.{known_true, if_tag}
 use Rattle.model.proofs.Totals.{publish_physical, publish_logical}
-use Rattle.numbers.proofs.Answers.{accepted_is, one_passes, not_both}
+use Rattle.numbers.proofs.Answers.{accepted_is, one_passes, one_fails, not_both, same_number, no_error}
 use Rattle.numbers.proofs.Cases.{by_lt}
 use Rattle.plan_record.proofs.Changing.{with_region, stays_same, world_changed, changed_valid}
 use Rattle.plan_record.proofs.Known.{region_at, known_here, known_not, region_is, mapped_is, log_most, regular_is, tagged_is}
 use Rattle.plan_record.proofs.Tags.{Taken, posting_taken, row_no_full, rows_stay, accounted_added, if_none, if_more}
-use Rattle.plan.proofs.Refusing.{called_refused, called_accepted, Accepts, done_no_refusal}
+use Rattle.plan.proofs.Refusing.{called_refused, called_accepted, Accepts}
 use Rattle.regionmap.proofs.Bytes.{lays_published}
 use Rattle.accounting.specs.Table as accounting
 use Rattle.model.specs.Region as model
 use Rattle.model.specs.World as world
 use Rattle.regionmap.specs.Map as regionmap
-use Rattle.regionmap.specs.declared.Mapped.TheVariants as mapped
 
-module _ (p : Plan) (id len i m : ℕ) (e : i ≡ spot_of p id) (a : m ≡ length (regions_of p)) where
-  pub publish_unknown : m ≤ i → Changes p (publish id len) (refusing p 16)
+module _ (p : Plan) (id len : ℕ) where
+  pub publish_unknown : place_in p id ≡ None → Changes p (publish id len) (refusing p Unknown)
   unfolding refusal_to first refuse
-  publish_unknown l =
-      record {
-        called = λ xs ss fs. called_refused p (publish id len) xs ss fs 16 (λ v. let k = known_not p xs id i m e a l in (simp k, λ z. omega arith));
-      }
+  publish_unknown e =
+      record { called = λ xs ss fs. called_refused p (publish id len) xs ss fs Unknown (λ v. let k = known_not p xs id e in simp k) }
 
-  module _ (l : i < m) where
+  module _ (i : ℕ) (f₀ : place_in p id ≡ Some i) where
     abbrev g : Region
     g = region_at p i
 
+    e : i ≡ spot_of p id
+    e = (found_is p id i f₀).0
+
     inside : i < length (regions_of p)
-    inside = omega arith
+    inside = (found_is p id i f₀).1
 
     module _ (b : ℕ) (d : b ≡ 2 ^ min g.log2_block 16) where
       -- the header's block
@@ -58,16 +60,16 @@ module _ (p : Plan) (id len i m : ℕ) (e : i ≡ spot_of p id) (a : m ≡ lengt
           let h : min g.log2_block 16 ≡ g.log2_block = ⊎_elim (λ q. omega arith) (λ q. omega (arith, q, log_most p xs ss fs v)) r.log in
           d ∙ ap (λ (n : ℕ). 2 ^ n) h ∙ sym (ap (λ (q : model.Region). 2 ^ q.log2) (region_is p xs i inside id e))
 
-      pub publish_odd : (len % b ≡ 0 → ⊥) → Changes p (publish id len) (refusing p 10)
+      pub publish_odd : (len % b ≡ 0 → ⊥) → Changes p (publish id len) (refusing p NoMultiple)
       unfolding refusal_to first refuse
       publish_odd n =
           record {
             called = λ xs ss fs.
-                called_refused p (publish id len) xs ss fs 10
+                called_refused p (publish id len) xs ss fs NoMultiple
                 (λ v.
-                let k = known_here p xs id i m e a l in
+                let k = known_here p xs id i f₀ in
                 let q = block_same xs ss fs v in
-                (simp (k, ne_eqb (len % 2 ^ (region_in (world_of p xs) id).log2) 0 (λ z. n (ap (λ (c : ℕ). len % c) q ∙ z))), λ z. omega arith));
+                simp (k, ne_eqb (len % 2 ^ (region_in (world_of p xs) id).log2) 0 (λ z. n (ap (λ (c : ℕ). len % c) q ∙ z))));
           }
 
       module _ (z : len % b ≡ 0) where
@@ -78,24 +80,27 @@ module _ (p : Plan) (id len i m : ℕ) (e : i ≡ spot_of p id) (a : m ≡ lengt
         capacity_is : (xs ss fs : List ℕ) → Valid p xs ss fs → model.capacity (region_in (world_of p xs) id) ≡ g.map.capacity
         capacity_is xs ss fs v = ap model.capacity (region_is p xs i inside id e) ∙ sym (mapped_is p xs ss fs v i inside).lays.capacity
 
-        pub publish_past : (r : Answered) (n : ℕ) → regionmap.Published g.map len r → r ≡ mapped.Refused n → Changes p (publish id len) (refusing p 23)
+        -- the answer is 23 where a map answers so
+        pub publish_past : (r : Result RegionMap Refusal) (n : Refusal) → regionmap.Published g.map len r → r ≡ Err n → Changes p (publish id len) (refusing p n)
         unfolding refusal_to first refuse
         publish_past r n u w =
+            let o : answer (refuse 23 (ltb g.map.capacity len)) (regionmap.published (regionmap.placement_of g.map [] []) len) ≡ refused (refusal_number n) =
+            sym (u.answer [] []) ∙ ap (λ (q : Result RegionMap Refusal). regionmap.outcome_of q [] []) w in
             let t : g.map.capacity < len =
-            by_lt g.map.capacity len (λ h. h)
-            (λ h. absurd (not_both _ n (sym (one_passes 23 _ _ (le-ltb _ _ h)) ∙ sym (u.answer [] []) ∙ ap (λ (q : Answered). regionmap.outcome_of q [] []) w))) in
+            by_lt g.map.capacity len (λ h. h) (λ h. absurd (not_both _ _ (sym (one_passes 23 _ _ (le-ltb _ _ h)) ∙ o))) in
+            let f : 23 ≡ refusal_number n = same_number _ _ (sym (one_fails 23 _ _ (omega arith) (lt-ltb _ _ t)) ∙ o) in
             record {
               called = λ xs ss fs.
-                  called_refused p (publish id len) xs ss fs 23
+                  called_refused p (publish id len) xs ss fs n
                   (λ v.
-                  let k = known_here p xs id i m e a l in
+                  let k = known_here p xs id i f₀ in
                   let c = capacity_is xs ss fs v in
                   let q : model.capacity (region_in (world_of p xs) id) < len = omega arith in
-                  (simp (k, eq-eqb _ _ (multiple xs ss fs v), lt-ltb _ _ q), λ y. omega arith));
+                  simp (k, eq-eqb _ _ (multiple xs ss fs v), lt-ltb _ _ q) f);
             }
 
-        module _ (next : RegionMap) (r₀ : Answered) (u₀ : regionmap.Published g.map len r₀) (w₀ : r₀ ≡ mapped.Map next) where
-          u : regionmap.Published g.map len (mapped.Map next)
+        module _ (next : RegionMap) (r₀ : Result RegionMap Refusal) (u₀ : regionmap.Published g.map len r₀) (w₀ : r₀ ≡ Ok next) where
+          u : regionmap.Published g.map len (Ok next)
           u = subst (regionmap.Published g.map len) w₀ u₀
 
           placed : (ss fs : List ℕ) → (g.map.capacity < len → ⊥) × (regionmap.published (regionmap.placement_of g.map ss fs) len ≡ regionmap.placement_of next ss fs)
@@ -110,7 +115,6 @@ module _ (p : Plan) (id len i m : ℕ) (e : i ≡ spot_of p id) (a : m ≡ lengt
                 number = g.number;
                 tag = g.tag;
                 name = g.name;
-                name_len = g.name_len;
                 kind = g.kind;
                 flags = g.flags;
                 log2_block = g.log2_block;
@@ -143,12 +147,14 @@ module _ (p : Plan) (id len i m : ℕ) (e : i ≡ spot_of p id) (a : m ≡ lengt
             o = subst (λ (n : ℕ). accounting.Posts p.accounts (accounting.on_row g.tag (add_usage n 0)) q) n₀ o₀
 
             -- the tag has a row, so nothing is refused
-            pub publish_never : (q.refusal ≡ 0 → ⊥) → Changes p (publish id len) (refusing p q.refusal)
-            publish_never n =
+            pub publish_never : (n : Refusal) → q.answer ≡ Err n → Changes p (publish id len) (refusing p n)
+            publish_never n h =
                 record {
                   called = λ xs ss fs.
-                      called_refused p (publish id len) xs ss fs q.refusal
-                      (λ v. absurd (n (posting_taken p xs ss fs v g.tag _ (λ r. refl) q o (row_no_full (world_of p xs) g.tag (tagged_is p xs ss fs v i inside))).number));
+                      called_refused p (publish id len) xs ss fs n
+                      (λ v.
+                      let t = posting_taken p xs ss fs v g.tag _ (λ r. refl) q o (row_no_full (world_of p xs) g.tag (tagged_is p xs ss fs v i inside)) in
+                      absurd (no_error tt n (sym t.number ∙ h)));
                 }
 
             abbrev p' : Plan
@@ -159,7 +165,7 @@ module _ (p : Plan) (id len i m : ℕ) (e : i ≡ spot_of p id) (a : m ≡ lengt
               w = world_of p xs
 
               known_region : known w id ≡ true
-              known_region = known_here p xs id i m e a l
+              known_region = known_here p xs id i f₀
 
               taken : Taken p xs ss fs v g.tag (add_usage (next.len - g.map.len) 0) (λ r. refl) q
               taken = posting_taken p xs ss fs v g.tag _ (λ r. refl) q o (row_no_full w g.tag (tagged_is p xs ss fs v i inside))
@@ -184,7 +190,7 @@ module _ (p : Plan) (id len i m : ℕ) (e : i ≡ spot_of p id) (a : m ≡ lengt
                   (subst (λ (r : model.Region). world.logical (published_at w id len) t + if_tag r.tag t r.published ≡ world.logical w t + if_tag r.tag t (max r.published len))
                   (region_is p xs i inside id e) k))
 
-              accepts : Accepts p (publish id len) xs ss fs xs ss fs Done p' v
+              accepts : Accepts p (publish id len) xs ss fs xs ss fs None p' v
               unfolding refusal_to first refuse byte_for accept
               accepts =
                   record {
@@ -198,5 +204,5 @@ module _ (p : Plan) (id len i m : ℕ) (e : i ≡ spot_of p id) (a : m ≡ lengt
                         (λ t. ap (λ (y : world.World). world.physical y t) world_next ∙ publish_physical w id (known_true w id known_region) len t ∙ if_none g.tag t _) s) s;
                   }
 
-            pub publish_done : q.refusal ≡ 0 → Changes p (publish id len) (record { reply = Done; plan = p' })
-            publish_done n = record { called = λ xs ss fs. called_accepted p (publish id len) xs ss fs xs ss fs Done p' done_no_refusal (accepts xs ss fs) }
+            pub publish_done : Changes p (publish id len) (record { reply = Ok None; plan = p' })
+            publish_done = record { called = λ xs ss fs. called_accepted p (publish id len) xs ss fs xs ss fs None p' (accepts xs ss fs) }

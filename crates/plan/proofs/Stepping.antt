@@ -1,8 +1,9 @@
 -- The table of steps: its rule is one equation over the whole table.
-use Prim.Native.Nat.{ℕ, zero, suc, ◌+◌, ◌*◌, ◌/◌, ◌^◌, ◌≤◌, ◌<◌}
+use Rattle.numbers.proofs.Cases.{by_lt}
+use Prim.Native.Nat.{ℕ, zero, suc, ◌+◌, ◌*◌, ◌/◌, ◌^◌, ◌≤◌, ◌<◌, min}
 use mathlib.Core.List.{List, [], ◌∷◌, map}
 use mathlib.Core.Path.{◌≡◌, refl, ap, sym, ◌∙◌}
-use native.Mathlib.Nat.{add-zero}
+use native.Mathlib.Nat.{add-zero, zero-add}
 use native.Mathlib.Omega.{arith}
 use lib.ListN.{get_or}
 use lib.Pow.{pow_mono}
@@ -29,18 +30,20 @@ table =
 table_rule : table ≡ map rule (counting 0 24)
 table_rule = refl
 
--- so each entry is the model's step
-pub table_step : (n : ℕ) → n < 24 → get_or table n 0 ≡ step n
+-- so each entry is the model's step, and the last one is kept
+pub table_step : (n : ℕ) → get_or table (min n 23) 0 ≡ step n
 unfolding step
-table_step n h = ap (λ (l : List ℕ). get_or l n 0) table_rule ∙ counted rule 0 24 n h ∙ sym (simp (le-leb n 23 (omega arith)) (ap rule (omega arith)))
+table_step n =
+    ap (λ (l : List ℕ). get_or l (min n 23) 0) table_rule ∙ counted rule 0 24 (min n 23) (omega arith) ∙ ap rule (zero-add (min n 23))
+    ∙ by_lt n 24 (λ h. let m : min n 23 ≡ n = omega arith in ap rule m ∙ sym (simp (le-leb n 23 (omega arith))))
+    (λ h. let m : min n 23 ≡ 23 = omega arith in ap rule m ∙ sym (simp (lt-leb n 23 (omega arith))))
 
-pub table_most : (n : ℕ) → n < 24 → get_or table n 0 ≤ 32768
+pub step_most : (n : ℕ) → step n ≤ 32768
 unfolding step
-table_most n h =
+step_most n =
+    by_lt n 24
+    (λ h.
     let m : 2 ^ (n / 2) ≤ 2 ^ 11 = pow_mono (let l : n / 2 ≤ 11 = omega arith in l) in
     let e : step n ≡ rule n = simp (le-leb n 23 (omega arith)) in
-    omega (arith, table_step n h)
-
-pub step_above : (n : ℕ) → 24 ≤ n → 32768 ≡ step n
-unfolding step
-step_above n h = sym (simp (lt-leb n 23 (omega arith)))
+    omega arith)
+    (λ h. let e : step n ≡ 32768 = simp (lt-leb n 23 (omega arith)) in omega arith)

@@ -1,32 +1,27 @@
 -- What the inner functions of the calls compute.
-use Rattle.std.specs.Prelude.{ℕ, suc, ◌+◌, ◌-◌, ◌*◌, ◌≤◌, ◌<◌, min, max, Bool, true, false, List, ◌∷◌, ◌++◌, ◌≡◌, length, take, drop, set, get_or}
-use Rattle.std.proofs.Math.Option.{none, some}
+use Rattle.numbers.specs.declared.refusal.Refusal.{Refusal}
+use Rattle.std.specs.Prelude.{ℕ, suc, ◌+◌, ◌-◌, ◌*◌, ◌≤◌, ◌<◌, min, max, List, ◌∷◌, ◌++◌, ◌≡◌, length, take, drop, set, get_or, Err}
 use Rattle.accounting.specs.declared.Accounting.{Accounting}
 use Rattle.footprint.specs.declared.RegionKind.TheVariants.{Append}
 use Rattle.model.specs.Calls.{step, create_tests, grow_tests}
-use Rattle.model.specs.Span.{least_free}
 use Rattle.numbers.specs.Refusals.{first}
 use Rattle.numbers.specs.Sums.{top, stop}
 use Rattle.plan_record.specs.Inner.{block_in}
-use Rattle.plan_record.specs.Record.{name_of}
-use Rattle.plan_record.specs.Plan.{regions_of, world_of, Valid, spot_of, past_region}
+use Rattle.plan_record.specs.Record.{text_of}
+use Rattle.plan_record.specs.Plan.{regions_of, world_of, Valid, spot_of, past_region, Reply}
 use Rattle.plan_record.specs.declared.Outcome.{Outcome}
 use Rattle.plan_record.specs.declared.Plan.{Plan}
+use Rattle.plan_record.specs.declared.names.Name.{Name}
 use Rattle.plan_record.specs.declared.Region.{Region}
-use Rattle.plan_record.specs.declared.Reply.{Reply}
-use Rattle.plan_record.specs.declared.Reply.TheVariants as reply
-use Rattle.regionmap.specs.declared.Located.{Located}
-use Rattle.regionmap.specs.declared.Located.TheVariants as located
 use Rattle.regionmap.specs.declared.RegionMap.{RegionMap}
 
--- A map's answer as the plan's.
-abbrev pub told : Located → Reply
-told (located.At b) = reply.At b
-told (located.Refused n) = reply.Refused n
-
 -- A refused call.
-abbrev pub refusing : Plan → ℕ → Outcome
-refusing p n = record { reply = reply.Refused n; plan = p }
+abbrev pub refusing : Plan → Refusal → Outcome
+refusing p n = record { reply = Err n; plan = p }
+
+-- A call's answer with the plan as it left it.
+abbrev pub left : Reply → Plan → Outcome
+left r p = record { reply = r; plan = p }
 
 -- Regions of which the one at i goes behind the first n, and those between move up.
 unfoldable pub moved : ℕ → ℕ → List Region → List Region
@@ -43,11 +38,6 @@ rotated p i =
       accounts = p.accounts;
     }
 
--- What the search for room tells of a valid plan.
-pub record Seeks (p : Plan) (n : ℕ) (xs : List ℕ) (found : Bool) (at : ℕ) : Type 0 where
-  pub there : (ss fs : List ℕ) → Valid p xs ss fs → 0 < n → found ≡ true → least_free (world_of p xs) n ≡ some at
-  pub nowhere : (ss fs : List ℕ) → Valid p xs ss fs → 0 < n → found ≡ false → least_free (world_of p xs) n ≡ none
-
 -- A region with an extent more: "the span widens to cover it".
 abbrev pub stretched : Region → RegionMap → ℕ → ℕ → Region
 stretched g m a n =
@@ -55,7 +45,6 @@ stretched g m a n =
       number = g.number;
       tag = g.tag;
       name = g.name;
-      name_len = g.name_len;
       kind = g.kind;
       flags = g.flags;
       log2_block = g.log2_block;
@@ -70,13 +59,12 @@ stretched g m a n =
     }
 
 -- A region that was just created in a row, with its header blocks at a.
-abbrev pub fresh : (row id tag : ℕ) (bytes : List ℕ) (len log2 a block seq : ℕ) → Region
-fresh row id tag bytes len log2 a block seq =
+abbrev pub fresh : (row id tag : ℕ) → Name → (log2 a block seq : ℕ) → Region
+fresh row id tag name log2 a block seq =
     record {
       number = id;
       tag = tag;
-      name = bytes;
-      name_len = len;
+      name = name;
       kind = Append;
       flags = 0;
       log2_block = log2;
@@ -117,8 +105,8 @@ with_new p g a =
 abbrev pub len_at : Plan → ℕ → ℕ
 len_at p i = step (get_or p.regions i past_region).extent_count * block_in p
 
--- What `add_region` makes, with some bytes whose front is the name.
+-- What `add_region` makes, with the name's bytes at the front of 24.
 pub record Adds (p : Plan) (id tag : ℕ) (name : List ℕ) (at : ℕ) (a : Accounting) (r : Plan) : Type 0 where
-  pub bytes : List ℕ
-  pub named : name_of bytes (length name) ≡ name
-  pub is : r ≡ with_new p (fresh (get_or p.regions (length (regions_of p)) past_region).row id tag bytes (length name) p.limits.log2_block at (block_in p) (p.last + 1)) a
+  pub own : Name
+  pub named : text_of own ≡ name
+  pub is : r ≡ with_new p (fresh (get_or p.regions (length (regions_of p)) past_region).row id tag own p.limits.log2_block at (block_in p) (p.last + 1)) a

@@ -1,22 +1,30 @@
 // What the calls on a plan are made of.
-ghost use Rattle.std.specs.Prelude.{◌||◌, ◌≡◌, ◌<◌, ◌≤◌, ◌/◌, min, max, ltb, eqb, length};
+ghost use Rattle.std.specs.Prelude.{IfSome, ◌||◌, ◌≡◌, ◌<◌, ◌≤◌, ◌/◌, ltb, length};
+ghost use Rattle.numbers.specs.Refusals.{refusal_in};
 ghost use Rattle.numbers.specs.Sums.{top};
-ghost use Rattle.plan_record.specs.Plan.{regions_of};
-ghost use Rattle.footprint.specs.Footprint.{kind_code};
-ghost use Rattle.footprint.specs.declared.RegionKind.TheVariants.{Slot};
+ghost use Rattle.plan_record.specs.Plan.{regions_of, place_in};
 ghost use Rattle.model.specs.Calls.{step};
-ghost use Rattle.plan.specs.Inner.{told, refusing, rotated, Seeks, stretched, fresh, CreateTested, GrowTested, Adds, len_at};
+ghost use Rattle.plan.specs.Inner.{rotated, stretched, fresh, CreateTested, GrowTested, Adds, len_at};
 
 use accounting::Accounting;
-use footprint::RegionKind;
-use freemap::Fit;
-use numbers::add_stop;
-use plan_record::figures::block_of;
-use plan_record::names::name_bytes;
-use plan_record::{Outcome, Plan, Region, Reply};
-use regionmap::{Located, RegionMap};
+use footprint::{RegionKind, block_of};
+use numbers::Refusal;
+use plan_record::names::Name;
+use plan_record::{Plan, Region};
+use regionmap::RegionMap;
 
-// How many blocks an extent has, by how many there are already: it doubles with every second one.
+// The place of the region with the number. Of a plan by value the bounds are known, and of one that is lent
+// they are not.
+pub(crate) fn seek(plan: Plan, id: u64) -> Option<usize>
+    ensures place { result ≡ place_in plan id }
+    ensures below { IfSome result (λ i. i < 64) }
+    ensures full { length plan.regions ≡ 64 }
+{
+    plan.find(id)
+}
+
+// How many blocks an extent has, by how many there are already: it doubles with every second one. Document
+// 01 asks for the constant list.
 const STEPS: [u64; 24] = [
     16, 16, 32, 32, 64, 64, 128, 128, 256, 256, 512, 512, 1024, 1024, 2048, 2048, 4096, 4096, 8192,
     8192, 16384, 16384, 32768, 32768,
@@ -26,64 +34,7 @@ const STEPS: [u64; 24] = [
 pub(crate) fn step_at(n: usize) -> u64
     ensures { (result ≡ step n) × (result ≤ 32768) }
 {
-    if n >= 24 {
-        return 32768;
-    }
-    STEPS[n]
-}
-
-// Where a piece goes, if it has a place.
-#[derive(Clone, Copy)]
-pub(crate) struct Room {
-    pub found: bool,
-    pub at: u64,
-}
-
-// The lowest free span of n bytes.
-pub(crate) fn seek(plan: Plan, n: u64, extents: &[u64]) -> Room
-    ensures { Seeks plan n extents.now result.found result.at }
-{
-    let fit = plan.place(n, extents);
-    match fit {
-        Fit::At(at) => Room { found: true, at },
-        Fit::Nothing => Room {
-            found: false,
-            at: 0,
-        },
-        Fit::Refused(_) => Room {
-            found: false,
-            at: 0,
-        },
-    }
-}
-
-// Whether a region is a Slot, which does not grow.
-pub(crate) fn is_slot(kind: RegionKind) -> bool
-    ensures { result ≡ eqb (kind_code kind) (kind_code Slot) }
-{
-    match kind {
-        RegionKind::Append => false,
-        RegionKind::Page => false,
-        RegionKind::Slot => true,
-    }
-}
-
-fn lower(a: u64, b: u64) -> u64
-    ensures { result ≡ min a b }
-{
-    if a < b {
-        return a;
-    }
-    b
-}
-
-fn higher(a: u64, b: u64) -> u64
-    ensures { result ≡ max a b }
-{
-    if a < b {
-        return b;
-    }
-    a
+    STEPS[n.min(23)]
 }
 
 // A region with an extent of n bytes more at the byte at, and its map.
@@ -91,9 +42,9 @@ pub(crate) fn stretch(mut region: Region, map: RegionMap, at: u64, n: u64) -> Re
     requires { region.extent_count < 60 }
     ensures { result ≡ stretched region map at n }
 {
-    region.span_start = lower(region.span_start, at);
-    region.span_end = higher(region.span_end, add_stop(at, n));
-    region.extent_count = region.extent_count + 1;
+    region.span_start = region.span_start.min(at);
+    region.span_end = region.span_end.max(at.saturating_add(n));
+    region.extent_count += 1;
     region.map = map;
     region
 }
@@ -103,28 +54,26 @@ pub(crate) fn make(
     row: usize,
     id: u64,
     tag: u32,
-    bytes: [u8; 24],
-    len: u8,
+    name: Name,
     log2: u8,
     at: u64,
     block: u64,
     seq: u64,
 ) -> Region
     requires { block ≤ 65536 }
-    ensures { result ≡ fresh row id tag bytes len log2 at block seq }
+    ensures { result ≡ fresh row id tag name log2 at block seq }
 {
     Region {
         number: id,
         tag,
-        name: bytes,
-        name_len: len,
+        name,
         kind: RegionKind::Append,
         flags: 0,
         log2_block: log2,
         header_a: at,
-        header_b: add_stop(at, block),
+        header_b: at.saturating_add(block),
         span_start: at,
-        span_end: add_stop(at, 2 * block),
+        span_end: at.saturating_add(2 * block),
         footprint_seq: seq,
         extent_count: 0,
         row,
@@ -138,131 +87,92 @@ pub(crate) fn make(
     }
 }
 
-// A map's answer as the plan's.
-pub(crate) fn tell(found: Located) -> Reply
-    ensures { result ≡ told found }
-{
-    match found {
-        Located::At(byte) => Reply::At(byte),
-        Located::Refused(refusal) => Reply::Refused(refusal),
-    }
-}
-
-// A refused call: its number, and the plan as it was.
-pub(crate) fn refuse(plan: Plan, refusal: u64) -> Outcome
-    ensures { result ≡ refusing plan refusal }
-{
-    Outcome {
-        reply: Reply::Refused(refusal),
-        plan,
-    }
-}
-
 // Whether a list has fewer places than 64 rows.
 pub(crate) fn lists_short(extents: usize, starts: usize, files: usize) -> bool
     ensures { result ≡ (ltb (extents / 2) 3840 || ltb starts 3840 || ltb files 3840) }
 {
-    if extents / 2 < 3840 {
-        return true;
-    }
-    if starts < 3840 {
-        return true;
-    }
-    files < 3840
+    extents / 2 < 3840 || starts < 3840 || files < 3840
 }
 
-// The plan without the region at place i: those behind it move up, and its row is free.
-pub(crate) fn rotate(mut plan: Plan, i: usize) -> Plan
-    requires { i < length (regions_of plan) }
-    ensures { result ≡ rotated plan i }
+// Takes the region at place i out of the plan: those behind it move up, and its row is free.
+pub(crate) fn rotate(plan: &mut Plan, i: usize)
+    requires { i < length (regions_of plan.old) }
+    ensures { plan.new ≡ rotated plan.old i }
 {
-    let gone = plan.regions[i];
-    let last = plan.counted() - 1;
-    let mut j = i;
-    while j < last {
-        let next = plan.regions[j + 1];
-        plan.regions[j] = next;
-        j += 1;
-    }
-    plan.regions[last] = gone;
-    plan.count = last;
-    plan
+    let count = plan.counted();
+    plan.regions[i..count].rotate_left(1);
+    plan.count = count - 1;
 }
 
-// The refusal of create before room is looked for; 0 where there is none.
-pub(crate) fn create_refusal(plan: Plan, id: u64, tag: u32, name: &[u8]) -> u64
-    ensures { CreateTested plan id tag name.now result }
+// Why create is refused before room is looked for, if it is.
+pub(crate) fn create_test(plan: Plan, id: u64, tag: u32, name: &[u8]) -> Result<(), Refusal>
+    ensures { CreateTested plan id tag name.now (refusal_in result) }
 {
     if name.len() > 24 {
-        return 1;
+        return Err(Refusal::Lists);
     }
-    let count = plan.counted();
-    if plan.find(id) < count {
-        return 14;
+    if plan.find(id).is_some() {
+        return Err(Refusal::NumberHeld);
     }
     if plan.named(name) {
-        return 18;
+        return Err(Refusal::NameHeld);
     }
-    if count >= 64 {
-        return 19;
+    if plan.counted() >= 64 {
+        return Err(Refusal::Full);
     }
     let accounts = plan.accounts;
     let asked = accounts.fits(tag, 2 * block_of(plan.limits.log2_block));
-    if asked.refusal != 0 {
-        return 19;
+    let fits = asked.answer?;
+    if plan.last == u64::MAX {
+        return Err(Refusal::LastNumber);
     }
-    if plan.last == 0xffff_ffff_ffff_ffff {
-        return 20;
+    if !fits {
+        return Err(Refusal::OverCap);
     }
-    if !asked.fits {
-        return 21;
-    }
-    0
+    Ok(())
 }
 
-// The refusal to grow the region at place i before room is looked for; 0 where there is none.
-pub(crate) fn grow_refusal(plan: Plan, i: usize, len: u64) -> u64
+// Why growing the region at place i is refused before room is looked for, if it is.
+pub(crate) fn grow_test(plan: Plan, i: usize, len: u64) -> Result<(), Refusal>
     requires { (i < length (regions_of plan)) × (len ≡ len_at plan i) }
-    ensures { GrowTested plan i result }
+    ensures { GrowTested plan i (refusal_in result) }
 {
     let region = plan.regions[i];
-    let kind = region.kind;
-    if is_slot(kind) {
-        return 17;
+    if region.kind == RegionKind::Slot {
+        return Err(Refusal::SlotGrows);
     }
     if region.extent_count >= 60 {
-        return 19;
+        return Err(Refusal::Full);
     }
     let accounts = plan.accounts;
     let asked = accounts.fits(region.tag, len);
-    if !asked.fits {
-        return 21;
+    let fits = asked.answer?;
+    if !fits {
+        return Err(Refusal::OverCap);
     }
-    0
+    Ok(())
 }
 
-// The plan with a region more that stands in the next free row, its header blocks at the byte at.
+// Gives the plan a region more, in the next free row, its header blocks at the byte at.
 pub(crate) fn add_region(
-    mut plan: Plan,
+    plan: &mut Plan,
     id: u64,
     tag: u32,
     name: &[u8],
     at: u64,
     accounts: Accounting,
-) -> Plan
-    requires { (length (regions_of plan) < 64) × (plan.last < top) × (length name.now ≤ 24) }
-    ensures { Adds plan id tag name.now at accounts result }
+)
+    requires { (length (regions_of plan.old) < 64) × (plan.old.last ≡ top → ⊥) × (length name.now ≤ 24) }
+    ensures { Adds plan.old id tag name.now at accounts plan.new }
 {
     let count = plan.counted();
     let row = plan.regions[count].row;
-    let bytes = name_bytes(name);
     let seq = plan.last + 1;
     plan.regions[count] = make(
         row,
         id,
         tag,
-        bytes,
-        name.len() as u8,
+        Name::of(name),
         plan.limits.log2_block,
         at,
         block_of(plan.limits.log2_block),
@@ -271,5 +181,4 @@ pub(crate) fn add_region(
     plan.count = count + 1;
     plan.last = seq;
     plan.accounts = accounts;
-    plan
 }

@@ -1,27 +1,25 @@
 // The calls on a plan. A plan is its record and the lists that its holder lends to each call, as the
-// last call left them.
+// last call left them. The three lists are lent one by one: of `&mut` lists in a struct no contract says
+// what they hold when the call ends.
 #![tactic(auto)]
 
 mod inner;
 
-ghost use Rattle.std.specs.Prelude.{◌≡◌};
+ghost use Rattle.std.specs.Prelude.{ℕ, List, false, ◌≡◌};
 ghost use Rattle.model.specs.Calls as model;
-ghost use Rattle.plan.specs.Calls.{Changes, Leaves, Grows, Locates};
+ghost use Rattle.plan.specs.Calls.{Called, Changes, Leaves, Grows, Locates};
+ghost use Rattle.plan.specs.Inner.{left};
+ghost use Rattle.plan_record.specs.Plan.{lists_short};
 
-use inner::{
-    add_region, create_refusal, grow_refusal, lists_short, refuse, rotate, seek, step_at, stretch,
-    tell,
-};
-use numbers::{add_stop, sub_stop};
-use plan_record::figures::block_of;
+use footprint::block_of;
+use inner::{add_region, create_test, grow_test, lists_short, rotate, seek, step_at, stretch};
+use numbers::Refusal;
 use plan_record::{Outcome, Plan, Reply};
-use regionmap::Mapped;
 use sort::pair::{Pair, put_pair};
-use tagspace::Cap;
 
 // Creates a region with no extents; its two header blocks stand at the byte that is answered.
 pub fn create(
-    plan: Plan,
+    mut plan: Plan,
     extents: &mut [u64],
     starts: &mut [u64],
     files: &mut [u64],
@@ -32,27 +30,27 @@ pub fn create(
     ensures { Leaves plan (model.create id tag name.now) extents.old starts.old files.old extents.new starts.new files.new result }
 {
     if lists_short(extents.len(), starts.len(), files.len()) {
-        return refuse(plan, 1);
+        return Outcome {
+            reply: Err(Refusal::Lists),
+            plan,
+        };
     }
-    let refusal = create_refusal(plan, id, tag, name);
-    if refusal != 0 {
-        return refuse(plan, refusal);
-    }
+    let reply = created(&mut plan, extents, id, tag, name);
+    Outcome { reply, plan }
+}
+
+fn created(plan: &mut Plan, extents: &[u64], id: u64, tag: u32, name: &[u8]) -> Reply
+    ensures { (ss fs : List ℕ) → Called plan.old (model.create id tag name.now) extents.now ss fs extents.now ss fs (left result plan.new) }
+{
+    create_test(*plan, id, tag, name)?;
     let two = 2 * block_of(plan.limits.log2_block);
-    let room = seek(plan, two, extents);
-    if !room.found {
-        return refuse(plan, 22);
-    }
+    let at = plan.place(two, extents)?.ok_or(Refusal::NoRoom)?;
     let accounts = plan.accounts;
     let posted = accounts.add_usage(tag, 0, two);
-    if posted.refusal != 0 {
-        return refuse(plan, posted.refusal);
-    }
+    posted.answer?;
     let counted = posted.accounts;
-    Outcome {
-        reply: Reply::At(room.at),
-        plan: add_region(plan, id, tag, name, room.at, counted),
-    }
+    add_region(plan, id, tag, name, at, counted);
+    Ok(Some(at))
 }
 
 // Gives a region one extent more, at the byte that is answered.
@@ -66,97 +64,97 @@ pub fn grow(
     ensures { Grows plan (model.grow id) id extents.old starts.old files.old extents.new starts.new files.new result }
 {
     if lists_short(extents.len(), starts.len(), files.len()) {
-        return refuse(plan, 1);
+        return Outcome {
+            reply: Err(Refusal::Lists),
+            plan,
+        };
     }
-    let i = plan.find(id);
-    if i >= plan.counted() {
-        return refuse(plan, 16);
-    }
+    let reply = grown(&mut plan, extents, starts, files, id);
+    Outcome { reply, plan }
+}
+
+fn grown(
+    plan: &mut Plan,
+    extents: &mut [u64],
+    starts: &mut [u64],
+    files: &mut [u64],
+    id: u64,
+) -> Reply
+    requires { lists_short extents.old starts.old files.old ≡ false }
+    ensures { Grows plan.old (model.grow id) id extents.old starts.old files.old extents.new starts.new files.new (left result plan.new) }
+{
+    let i = seek(*plan, id).ok_or(Refusal::Unknown)?;
     let region = plan.regions[i];
     let n = region.extent_count;
     let len = step_at(n) * block_of(plan.limits.log2_block);
-    let refusal = grow_refusal(plan, i, len);
-    if refusal != 0 {
-        return refuse(plan, refusal);
-    }
-    let room = seek(plan, len, extents);
-    if !room.found {
-        return refuse(plan, 22);
-    }
+    grow_test(*plan, i, len)?;
+    let at = plan.place(len, extents)?.ok_or(Refusal::NoRoom)?;
     let accounts = plan.accounts;
     let posted = accounts.add_usage(region.tag, 0, len);
-    if posted.refusal != 0 {
-        return refuse(plan, posted.refusal);
-    }
+    posted.answer?;
     let a = 60 * region.own_row();
     let b = a + 60;
     let map = region.map;
-    let Mapped::Map(next) = map.extend(room.at, len, &mut starts[a..b], &mut files[a..b]) else {
-        return refuse(plan, 19);
-    };
+    let next = map.extend(at, len, &mut starts[a..b], &mut files[a..b])?;
     put_pair(
         extents,
         a + n,
         Pair {
-            left: room.at,
+            left: at,
             right: len,
         },
     );
-    plan.regions[i] = stretch(region, next, room.at, len);
+    plan.regions[i] = stretch(region, next, at, len);
     let counted = posted.accounts;
     plan.accounts = counted;
-    Outcome {
-        reply: Reply::At(room.at),
-        plan,
-    }
+    Ok(Some(at))
 }
 
 // Publishes the first len bytes of a region.
 pub fn publish(mut plan: Plan, id: u64, len: u64) -> Outcome
     ensures { Changes plan (model.publish id len) result }
 {
-    let i = plan.find(id);
-    if i >= plan.counted() {
-        return refuse(plan, 16);
-    }
+    let reply = published(&mut plan, id, len);
+    Outcome { reply, plan }
+}
+
+fn published(plan: &mut Plan, id: u64, len: u64) -> Reply
+    ensures { Changes plan.old (model.publish id len) (left result plan.new) }
+{
+    let i = seek(*plan, id).ok_or(Refusal::Unknown)?;
     let mut region = plan.regions[i];
     if len % block_of(region.log2_block) != 0 {
-        return refuse(plan, 10);
+        return Err(Refusal::NoMultiple);
     }
     let map = region.map;
-    let Mapped::Map(next) = map.publish_len(len) else {
-        return refuse(plan, 23);
-    };
+    let next = map.publish_len(len)?;
     let accounts = plan.accounts;
-    let posted = accounts.add_usage(region.tag, sub_stop(next.len, map.len), 0);
-    if posted.refusal != 0 {
-        return refuse(plan, posted.refusal);
-    }
+    let posted = accounts.add_usage(region.tag, next.len.saturating_sub(map.len), 0);
+    posted.answer?;
     region.map = next;
     plan.regions[i] = region;
     let counted = posted.accounts;
     plan.accounts = counted;
-    Outcome {
-        reply: Reply::Done,
-        plan,
-    }
+    Ok(None)
 }
 
 // Sets a tag's cap, or clears it.
-pub fn cap(mut plan: Plan, tag: u32, limit: Cap) -> Outcome
+pub fn cap(mut plan: Plan, tag: u32, limit: Option<u64>) -> Outcome
     ensures { Changes plan (model.cap tag limit) result }
+{
+    let reply = capped(&mut plan, tag, limit);
+    Outcome { reply, plan }
+}
+
+fn capped(plan: &mut Plan, tag: u32, limit: Option<u64>) -> Reply
+    ensures { Changes plan.old (model.cap tag limit) (left result plan.new) }
 {
     let accounts = plan.accounts;
     let posted = accounts.set_cap(tag, limit);
-    if posted.refusal != 0 {
-        return refuse(plan, posted.refusal);
-    }
-    let capped = posted.accounts;
-    plan.accounts = capped;
-    Outcome {
-        reply: Reply::Done,
-        plan,
-    }
+    posted.answer?;
+    let limited = posted.accounts;
+    plan.accounts = limited;
+    Ok(None)
 }
 
 // Drops a region: its bytes are free for the next call.
@@ -170,48 +168,43 @@ pub fn drop(
     ensures { Leaves plan (model.drop id) extents.old starts.old files.old extents.new starts.new files.new result }
 {
     if lists_short(extents.len(), starts.len(), files.len()) {
-        return refuse(plan, 1);
+        return Outcome {
+            reply: Err(Refusal::Lists),
+            plan,
+        };
     }
-    let i = plan.find(id);
-    if i >= plan.counted() {
-        return refuse(plan, 16);
-    }
+    let reply = dropped(&mut plan, id);
+    Outcome { reply, plan }
+}
+
+fn dropped(plan: &mut Plan, id: u64) -> Reply
+    ensures { Changes plan.old (model.drop id) (left result plan.new) }
+{
+    let i = seek(*plan, id).ok_or(Refusal::Unknown)?;
     let region = plan.regions[i];
     let two = 2 * block_of(plan.limits.log2_block);
+    let held = region.map.capacity.saturating_add(two);
     let accounts = plan.accounts;
-    let posted = accounts.remove_usage(
-        region.tag,
-        region.map.len,
-        add_stop(two, region.map.capacity),
-    );
-    if posted.refusal != 0 {
-        return refuse(plan, posted.refusal);
-    }
+    let posted = accounts.remove_usage(region.tag, region.map.len, held);
+    posted.answer?;
     let counted = posted.accounts;
     plan.accounts = counted;
-    Outcome {
-        reply: Reply::Done,
-        plan: rotate(plan, i),
-    }
+    rotate(plan, i);
+    Ok(None)
 }
 
 // The byte of position pos of a region, where the n bytes from there are published and lie in one run.
 pub fn locate(plan: Plan, starts: &[u64], files: &[u64], id: u64, pos: u64, n: u64) -> Reply
     ensures { Locates plan id pos n starts.now files.now result }
 {
-    if starts.len() < 3840 {
-        return Reply::Refused(1);
+    if starts.len() < 3840 || files.len() < 3840 {
+        return Err(Refusal::Lists);
     }
-    if files.len() < 3840 {
-        return Reply::Refused(1);
-    }
-    let i = plan.find(id);
-    if i >= plan.counted() {
-        return Reply::Refused(16);
-    }
+    let i = plan.find(id).ok_or(Refusal::Unknown)?;
     let region = plan.regions[i];
     let a = 60 * region.own_row();
     let b = a + 60;
     let map = region.map;
-    tell(map.locate(&starts[a..b], &files[a..b], pos, n))
+    let byte = map.locate(&starts[a..b], &files[a..b], pos, n)?;
+    Ok(Some(byte))
 }

@@ -1,67 +1,61 @@
 -- 4 to 13: each record's own check, in order.
-use Prim.Native.Nat.{ℕ, ◌+◌, ◌-◌, ◌*◌, ◌≤◌, ◌<◌}
-use mathlib.Core.List.{List, ◌++◌, map}
-use mathlib.Core.Path.{◌≡◌, refl, ap, sym, ◌∙◌}
-use native.Mathlib.Omega.{arith}
-use lib.ListN.{length, take, drop}
-use lib.Seq.{length-take-le, length_front}
-use borrow.Author.Tests.{ne_eqb}
+use Rattle.std.proofs.Common.{ℕ, ◌+◌, ◌*◌, ◌≤◌, ◌<◌, List, [], ◌∷◌, length, take, ◌≡◌, refl, ap, sym, ◌∙◌, arith, ne_eqb}
+use Rattle.std.specs.Prelude.{Option, Some, None, Ok}
+use Rattle.footprint.specs.Footprint.{answer_of, check_of, refusal_of}
+use Rattle.footprint.specs.declared.Extent.{Extent}
 use Rattle.footprint.specs.declared.Limits.{Limits}
-use Rattle.numbers.specs.Refusals.{first}
-use Rattle.numbers.specs.Sums.{sum}
-use Rattle.plan_checks.specs.Early.{Listed, ranges_of}
+use Rattle.numbers.specs.Range.{Range}
+use Rattle.numbers.specs.Refusals.{Answer, first, number_of}
+use Rattle.numbers.proofs.Answers.{number_told}
+use lib.Seq.{length-take-le}
+use Rattle.plan_checks.specs.Each.{Handed}
+use Rattle.plan_checks.specs.Early.{Listed}
 use Rattle.plan_checks.specs.Opening.{records_of}
 use Rattle.plan_record.specs.declared.Record.{Record}
-use Rattle.model.proofs.Opening.{count_of, listed_by}
-use Rattle.plan_checks.proofs.Along.{sum_part, records_end, Along, along_begins, this, own, own_part, along_on, each_next}
-use Rattle.model.specs.Open as model
+use Rattle.plan_checks.proofs.Along.{listed_next, each_next}
+use Rattle.plan_record.specs.Record.{record_of}
+use Rattle.model.specs.Open.{each_record, record_refusal}
 
--- no check of the first i records fails
-pub record Checking (lim : Limits) (rs : List Record) (n : ℕ) (l s₀ s : List ℕ) (i at : ℕ) : Type 0 where
-  pub along : Along rs n l i at
-  pub size : length s ≡ length s₀
-  pub room : 2 * sum (map ranges_of (records_of rs n)) ≤ length s₀
-  pub rest : first (model.each_record (model.record_refusal lim) (records_of rs n) l)
-      ≡ first (model.each_record (model.record_refusal lim) (drop i (records_of rs n)) (drop at l))
+-- what the checks of the records that are left say is what all say
+pub record Checking (lim : Limits) (rs left : List Record) (l rest s : List ℕ) : Type 0 where
+  pub long : Listed (records_of left) (length rest) (length s)
+  pub decides : first (each_record (record_refusal lim) (records_of rs) l) ≡ first (each_record (record_refusal lim) (records_of left) rest)
 
-pub check_begins : (lim : Limits) (rs : List Record) (n : ℕ) (l s : List ℕ) → n ≤ 64 → Listed (records_of rs n) (length l) (length s)
-    → Checking lim rs n l s s 0 0
-check_begins lim rs n l s a b = record { along = along_begins rs n l a b.extents; size = refl; room = b.room; rest = refl }
-
-module _ {lim : Limits} {rs : List Record} {n : ℕ} {l s₀ s : List ℕ} {i at : ℕ} (g : Checking lim rs n l s₀ s i at) where
-  module _ (h : i < n) where
+module _ {lim : Limits} {rs left : List Record} {l rest s : List ℕ} (g : Checking lim rs left l rest s) where
+  module _ {one : Record} {left' : List Record} {own rest' : List ℕ} (h : Handed left rest one own left' rest') where
+    -- the scratch that its footprint takes
     abbrev k : ℕ
-    k = 2 * (count_of (this g.along h) + 2)
+    k = 2 * (one.entry.extent_count + 2)
 
-    -- the front of scratch that is lent
-    pub check_room : k ≤ length s
-    check_room = let p = sum_part ranges_of rs n i h in omega (arith, g.room, g.size)
+    pub own_room : k ≤ length s
+    own_room = (listed_next h (length s) g.long).1
 
-    pub check_front : length (take (k - 0) s) ≡ k
-    check_front = let p = check_room in length-take-le (k - 0) s (omega arith) ∙ omega arith
+    pub own_scratch : k ≡ length (take k s)
+    own_scratch = sym (length-take-le k s own_room)
 
-    -- and that comes back
-    pub check_kept : (ys : List ℕ) → length ys ≡ length (take (k - 0) s) → length (ys ++ drop (k - 0) s) ≡ length s₀
-    check_kept ys q = length_front s ys (k - 0) q ∙ g.size
+    -- what its check answered
+    module _ {a : Answer (List Range)} (e : a ≡ check_of lim one.number one.entry one.header own (length (take k s))) where
+      refusal : number_of a ≡ record_refusal lim (record_of one) own
+      refusal = ap number_of e ∙ number_told _ _ ∙ ap (refusal_of _ _ _ _ _) (sym own_scratch)
 
-    module _ (m : ℕ) (e : m ≡ model.record_refusal lim (this g.along h) (take (at + 2 * listed_by (this g.along h) - at) (drop at l))) where
-      its : m ≡ model.record_refusal lim (this g.along h) (own g.along h)
-      its = e ∙ ap (model.record_refusal lim (this g.along h)) (own_part g.along h)
+      its : first (each_record (record_refusal lim) (records_of rs) l)
+          ≡ first (number_of a ∷ each_record (record_refusal lim) (records_of left') rest')
+      its = g.decides ∙ ap first (each_next h (record_refusal lim)) ∙ rw refusal refl
 
-      pub check_fails : (m ≡ 0 → ⊥) → m ≡ first (model.each_record (model.record_refusal lim) (records_of rs n) l)
+      pub check_fails : 0 < number_of a → number_of a ≡ first (each_record (record_refusal lim) (records_of rs) l)
       unfolding first
-      check_fails d = sym (g.rest ∙ ap first (each_next g.along h (model.record_refusal lim)) ∙ rw (← its) (simp (ne_eqb m 0 d)))
+      check_fails p = sym (its ∙ simp (ne_eqb (number_of a) 0 (λ z. omega arith)))
 
-      pub check_on : m ≡ 0 → (t : List ℕ) → length t ≡ length s₀ → Checking lim rs n l s₀ t (i + 1) (at + 2 * listed_by (this g.along h))
+      pub check_on : number_of a ≡ 0 → (s' : List ℕ) → length s' ≡ length s → Checking lim rs left' l rest' s'
       unfolding first
-      check_on z t q =
-          record {
-            along = along_on g.along h;
-            size = q;
-            room = g.room;
-            rest = g.rest ∙ ap first (each_next g.along h (model.record_refusal lim)) ∙ simp (sym its ∙ z);
-          }
+      check_on z s' e =
+          let t = (listed_next h (length s) g.long).2 in
+          record { long = record { extents = t.extents; room = omega (arith, t.room) }; decides = its ∙ simp z }
 
-  pub check_ends : n ≤ i → 0 ≡ first (model.each_record (model.record_refusal lim) (records_of rs n) l)
-  unfolding first model.each_record
-  check_ends h = sym (g.rest ∙ rw (records_end rs n i h))
+  pub check_ends : left ≡ [] → 0 ≡ first (each_record (record_refusal lim) (records_of rs) l)
+  unfolding first each_record
+  check_ends z = sym (g.decides ∙ rw z refl)
+
+pub usable_none : (x : Option Extent) → number_of (answer_of (Ok x)) ≡ 0
+usable_none None = refl
+usable_none (Some x) = refl

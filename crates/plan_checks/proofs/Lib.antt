@@ -1,8 +1,6 @@
-pub mod Reading
-pub mod Tallying
-pub mod Logging
-pub mod Listing
-pub mod Sharing
 pub mod Along
+pub mod Listing
+pub mod Logging
+pub mod Sharing
 pub mod Checking
 pub mod Early

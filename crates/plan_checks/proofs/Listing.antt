@@ -1,87 +1,98 @@
--- 1: what each test over all records tells.
-use Prim.Native.Nat.{ℕ, ◌/◌, ◌%◌, ◌≤◌, ◌<◌}
-use mathlib.Core.Bool.{Bool, true, false}
-use mathlib.Core.List.{List}
-use mathlib.Core.Path.{◌≡◌, sym, subst, ◌∙◌}
-use native.Mathlib.Omega.{arith}
-use lib.Dec.{leb}
-use lib.ListN.{length}
-use borrow.Author.Tests.{leb-true, le-leb}
+-- 1: the tests over all records are the model's.
+use Rattle.std.proofs.Common.{ℕ, ◌+◌, ◌*◌, ◌/◌, ◌%◌, Bool, true, false, ◌||◌, List, [], ◌∷◌, map, length, ltb, ◌≡◌, refl, ap, sym, ◌∙◌, arith, lt-ltb, ltb-true, ne_eqb, eqb, not}
+use lib.ListN.{length-map}
+use Rattle.std.proofs.lemmas.List.Recursion.{is_sum_by}
+use Rattle.std.proofs.lemmas.List.Sums.{sum-map}
+use Rattle.std.specs.List.{list_any}
+use Rattle.std.specs.Prelude as std
 use Rattle.footprint.specs.Footprint.{max_extents}
 use Rattle.footprint.specs.declared.Limits.{Limits}
-use Rattle.numbers.specs.Lists.{All}
-use Rattle.plan_checks.specs.Early.{Tells, Within, Tallied, Listed}
+use Rattle.numbers.specs.Lists.{any}
+use Rattle.numbers.specs.Pairs.{is_odd}
+use Rattle.numbers.specs.Sums.{sum}
+use Rattle.plan_checks.specs.Early.{ranges_of, Listed}
 use Rattle.plan_checks.specs.Opening.{records_of, opening_of}
+use Rattle.plan_record.specs.Record.{record_of}
 use Rattle.plan_record.specs.declared.Record.{Record}
-use Rattle.model.proofs.Opening.{count_of, listed_by, ListsIn}
-use Rattle.numbers.proofs.Cases.{clash}
-use Rattle.numbers.proofs.Lists.{all_both, all_imp}
+use Rattle.model.proofs.Opening.{listed_by, lists_pass}
+use Rattle.model.specs.Open.{lists_fail_in}
+use Rattle.numbers.proofs.Cases.{by_eq, both_ways}
+use Rattle.numbers.proofs.Lists.{or_exchange}
 use Rattle.numbers.proofs.Pairs.{length_pairs, odd_list, even_list}
-use Rattle.plan_checks.proofs.Reading.{records_length, tells_not, tells_by}
+use Rattle.plan_record.proofs.Naming.{name-length}
 use Rattle.model.specs.Open as model
 
-module _ (lim : Limits) (rs : List Record) (n : ℕ) (l : List ℕ) (scratch places : ℕ) where
-  abbrev o : model.Opening
-  o = opening_of lim rs n l scratch places
+or_three : (a b c d e f : Bool) → (((a || b) || c) || ((d || e) || f)) ≡ (((a || d) || (b || e)) || (c || f))
+or_three a b c d e f = or_exchange (a || b) c (d || e) f ∙ ap (λ (x : Bool). x || (c || f)) (or_exchange a b d e)
 
-  abbrev ms : List model.Record
-  ms = records_of rs n
+-- a record counts too many extents, or has too long a name
+abbrev pub over : ℕ → Record → Bool
+over most r = ltb 60 r.entry.extent_count || ltb 24 r.name.len || ltb most r.header.extent_count
 
-  abbrev most : ℕ
-  most = max_extents lim.log2_block
+abbrev many : model.Record → Bool
+many r = ltb 60 r.entry.extent_count
 
-  abbrev Named : model.Record → Type 0
-  Named r = length r.name ≤ 24
+abbrev long : model.Record → Bool
+long r = ltb 24 (length r.name)
 
-  abbrev Few : model.Record → Type 0
-  Few r = (count_of r ≤ 60) × (length r.name ≤ 24)
+abbrev wide : ℕ → model.Record → Bool
+wide most r = ltb most r.header.extent_count
 
-  all_within : ListsIn o → All (Within most) ms
-  all_within f =
-      all_both Few (λ (r : model.Record). listed_by r ≤ most) (Within most) (λ r a b. record { count = a.0; name = a.1; header = b }) ms
-      (all_both (λ (r : model.Record). count_of r ≤ 60) Named Few (λ r a b. (a, b)) ms f.counts f.names)
-      f.headers
+pub some_over : (most : ℕ) (rs : List Record) → list_any (over most) rs
+    ≡ (any many (records_of rs) || any long (records_of rs) || any (wide most) (records_of rs))
+unfolding any
+some_over most [] = refl
+some_over most (r ∷ rs) =
+    rw (some_over most rs, name-length r.name.bytes r.name.len)
+    (or_three (ltb 60 r.entry.extent_count) (ltb 24 r.name.len) (ltb most r.header.extent_count)
+    (any many (records_of rs)) (any long (records_of rs)) (any (wide most) (records_of rs)))
 
-  pub lists_many : 64 < n → Tells (ListsIn o) false
-  lists_many h = tells_not (λ f. omega (arith, h, f.few, records_length rs n))
+-- the library's sum over the records is the model's
+pub sum_of : (f : model.Record → ℕ) (rs : List Record) → std.sum (map (λ (r : Record). f (record_of r)) rs) ≡ sum (map f (records_of rs))
+unfolding sum
+sum_of f rs =
+    sum-map (λ (r : Record). f (record_of r)) rs
+    ∙ sym (is_sum_by (λ (ms : List Record). sum (map f (records_of ms))) (λ (r : Record). f (record_of r)) refl (λ r ms. refl) rs)
 
-  pub lists_odd : (length l % 2 ≡ 0 → ⊥) → Tells (ListsIn o) false
-  lists_odd d = tells_not (λ f. clash (odd_list l d) f.even)
+or_back : (a m n w : Bool) → (((a || m) || n) || w) ≡ (a || ((m || n) || w))
+or_back true m n w = refl
+or_back false m n w = refl
 
-  module _ {m : ℕ} (q : m ≡ most) {fine : Bool} {listed ranges : ℕ} (t₀ : Tallied m ms fine listed ranges) where
-    t : Tallied most ms fine listed ranges
-    t = subst (λ (k : ℕ). Tallied k ms fine listed ranges) q t₀
+odd_by : (l : List ℕ) → is_odd l ≡ not (eqb (length l % 2) 0)
+odd_by l = by_eq (length l % 2) 0 (λ z. even_list l z ∙ simp z) (λ d. odd_list l d ∙ simp (ne_eqb _ _ d))
 
-    pub lists_over : fine ≡ false → Tells (ListsIn o) false
-    lists_over e = tells_not (λ f. t.over e (all_within f))
+shared_by : (scratch n : ℕ) → ltb scratch (16 * n) ≡ ltb (scratch / 16) n
+shared_by scratch n =
+    both_ways _ _ (λ t. lt-ltb _ _ (let h = ltb-true _ _ t in omega arith)) (λ t. lt-ltb _ _ (let h = ltb-true _ _ t in omega arith))
 
-    module _ (e : fine ≡ true) where
-      pub lists_other : (length l / 2 ≡ listed → ⊥) → Tells (ListsIn o) false
-      lists_other d = tells_not (λ f. d (sym (length_pairs l) ∙ f.listed ∙ sym (t.sums e).all_listed))
+abbrev pub header_count : Record → ℕ
+header_count r = r.header.extent_count
 
-      pub lists_scratch : scratch / 16 < ranges → Tells (ListsIn o) false
-      lists_scratch h = tells_not (λ f. omega (arith, h, f.scratch, (t.sums e).all_ranges))
+abbrev pub range_count : Record → ℕ
+range_count r = r.entry.extent_count + 2
 
-      pub lists_end : n ≤ 64 → length l % 2 ≡ 0 → length l / 2 ≡ listed → ranges ≤ scratch / 16 → Tells (ListsIn o) (leb 64 places)
-      lists_end h v d s =
-          let u = t.sums e in
-          tells_by (leb 64 places)
-          (λ b. record {
-            few = omega (arith, h, records_length rs n);
-            counts = all_imp (Within most) (λ (r : model.Record). count_of r ≤ 60) (λ r w. w.count) ms u.within;
-            names = all_imp (Within most) Named (λ r w. w.name) ms u.within;
-            headers = all_imp (Within most) (λ (r : model.Record). listed_by r ≤ most) (λ r w. w.header) ms u.within;
-            even = even_list l v;
-            listed = length_pairs l ∙ d ∙ u.all_listed;
-            scratch = omega (arith, s, u.all_ranges);
-            places = leb-true 64 places b;
-          })
-          (λ f. le-leb 64 places f.places)
+-- 1 as the code tests it
+pub lists_by : (lim : Limits) (rs : List Record) (l : List ℕ) (scratch places : ℕ)
+    → lists_fail_in (opening_of lim rs l scratch places)
+    ≡ (ltb 64 (length rs) || list_any (over (max_extents lim.log2_block)) rs
+    || not (eqb (length l % 2) 0) || not (eqb (length l / 2) (std.sum (map header_count rs)))
+    || ltb (scratch / 16) (std.sum (map range_count rs)) || ltb places 64)
+unfolding lists_fail_in
+lists_by lim rs l scratch places =
+    rw (
+      length-map rs record_of,
+      or_back (ltb 64 (length rs)) (any many (records_of rs)) (any long (records_of rs))
+          (any (wide (max_extents lim.log2_block)) (records_of rs)),
+      odd_by l,
+      length_pairs l,
+      shared_by scratch (sum (map ranges_of (records_of rs))),
+      some_over (max_extents lim.log2_block) rs,
+      sum_of listed_by rs,
+      sum_of ranges_of rs,
+    ) refl
 
-  -- the lists are long enough for each record's check
-  pub lists_long : ListsIn o → Listed ms (length l) scratch
-  lists_long f =
-      record { extents = omega (arith, f.listed, length_pairs l); room = omega (arith, f.scratch) }
-
-  pub lists_few : ListsIn o → n ≤ 64
-  lists_few f = omega (arith, f.few, records_length rs n)
+pub lists_long : (lim : Limits) (rs : List Record) (l : List ℕ) (scratch places : ℕ)
+    → lists_fail_in (opening_of lim rs l scratch places) ≡ false → Listed (records_of rs) (length l) scratch
+lists_long lim rs l scratch places e =
+    let f = lists_pass (opening_of lim rs l scratch places) e in
+    record { extents = omega (arith, length_pairs l, f.listed); room = omega (arith, f.scratch) }

@@ -1,60 +1,41 @@
--- 2 over all records, and 3.
-use Prim.Native.Nat.{ℕ, ◌-◌, ◌^◌, ◌≤◌, ◌<◌}
-use mathlib.Core.Bool.{true, false}
-use mathlib.Core.List.{List}
-use mathlib.Core.Logic.{◌⊎◌, ⊎_elim}
-use mathlib.Core.Path.{◌≡◌}
-use native.Mathlib.Omega.{arith}
-use lib.Dec.{leb}
-use lib.ListN.{get_or}
-use borrow.Author.Tests.{leb-true, le-leb}
+-- 2 over all records is the model's.
+use Rattle.std.proofs.Common.{ℕ, ◌≤◌, Bool, true, false, not, ◌&&◌, ◌||◌, List, [], ◌∷◌, eqb, ◌≡◌, refl, sym, le-ltb, lt-ltb, leb, le-leb}
+use Rattle.std.proofs.lemmas.Bool.{lt-leb}
+use Rattle.std.specs.List.{list_any}
+use Rattle.footprint.specs.Footprint.{logs_fail}
 use Rattle.footprint.specs.declared.Limits.{Limits}
-use Rattle.plan_checks.specs.Early.{Tells, AllLogs}
-use Rattle.plan_checks.specs.Opening.{past_record, records_of}
-use Rattle.plan_record.specs.Record.{record_of}
+use Rattle.numbers.specs.Lists.{any}
+use Rattle.plan_checks.specs.Opening.{records_of, opening_of}
 use Rattle.plan_record.specs.declared.Record.{Record}
-use Rattle.footprint.proofs.Passed.{Logs}
-use Rattle.model.proofs.Opening.{length_pass, length_fine}
-use Rattle.numbers.proofs.Lists.{all_imp}
-use Rattle.plan_checks.proofs.Reading.{Upto, upto_ends, not_all, tells_not, tells_so, tells_by}
+use Rattle.model.specs.Open.{logs_fail_in}
+use Rattle.numbers.proofs.Cases.{by_lt}
 use Rattle.model.specs.Open as model
 
--- a header's block log is 9 or the container's
-abbrev pub Own : ℕ → model.Record → Type 0
-Own log r = (r.header.log2_block ≡ 9) ⊎ (r.header.log2_block ≡ log)
+-- a header's block log is neither 9 nor the container's
+abbrev pub other : ℕ → Record → Bool
+other log r = not (eqb r.header.log2_block 9) && not (eqb r.header.log2_block log)
 
-module _ (lim : Limits) (rs : List Record) (n : ℕ) where
-  abbrev all : Type 0
-  all = AllLogs lim (records_of rs n)
+neither : (a b : Bool) → (not a && not b) ≡ not (a || b)
+neither true b = refl
+neither false b = refl
 
-  pub logs_low : lim.log2_block < 12 → Tells all false
-  logs_low h = tells_not (λ a. omega (arith, h, a.low))
+own_fails : (lim : Limits) → 12 ≤ lim.log2_block → lim.log2_block ≤ 16 → (r : Record) → logs_fail lim r.header ≡ other lim.log2_block r
+unfolding logs_fail
+own_fails lim low high r =
+    simp (le-ltb _ _ low, le-ltb _ _ high) (sym (neither (eqb r.header.log2_block 9) (eqb r.header.log2_block lim.log2_block)))
 
-  pub logs_high : 16 < lim.log2_block → Tells all false
-  logs_high h = tells_not (λ a. omega (arith, h, a.high))
+any_fails : (lim : Limits) → 12 ≤ lim.log2_block → lim.log2_block ≤ 16 → (rs : List Record)
+    → any (λ (r : model.Record). logs_fail lim r.header) (records_of rs) ≡ list_any (other lim.log2_block) rs
+unfolding any
+any_fails lim low high [] = refl
+any_fails lim low high (r ∷ rs) = rw (own_fails lim low high r, any_fails lim low high rs) refl
 
-  pub logs_neither : (i : ℕ) → i < n → ((record_of (get_or rs i past_record)).header.log2_block ≡ 9 → ⊥) → ((record_of (get_or rs i past_record)).header.log2_block ≡ lim.log2_block → ⊥) → Tells all false
-  logs_neither i h a b = tells_not (λ l. not_all (λ (r : model.Record). Logs lim r.header) rs n i h (λ o. ⊎_elim a b o.own) l.own)
-
-  pub logs_end : 12 ≤ lim.log2_block → lim.log2_block ≤ 16 → (i : ℕ) → n ≤ i → Upto (Own lim.log2_block) rs n i → Tells all true
-  logs_end l k i h g =
-      tells_so
-      (record {
-        low = l;
-        high = k;
-        own =
-            all_imp (Own lim.log2_block) (λ (r : model.Record). Logs lim r.header) (λ r o. record { low = l; high = k; own = o }) (records_of rs n)
-            (upto_ends (Own lim.log2_block) g h);
-      })
-
-module _ (lim : Limits) where
-  abbrev fine : Type 0
-  fine = model.length_fails lim ≡ false
-
-  pub short_length : lim.file_len < lim.table_end → Tells fine false
-  short_length h = tells_not (λ e. omega (arith, h, (length_pass lim e).0))
-
-  pub long_length : lim.table_end ≤ lim.file_len → Tells fine (leb lim.file_len (2 ^ 63 - 1))
-  long_length h =
-      tells_by (leb lim.file_len (2 ^ 63 - 1)) (λ t. length_fine lim h (leb-true lim.file_len (2 ^ 63 - 1) t))
-      (λ e. le-leb lim.file_len (2 ^ 63 - 1) (length_pass lim e).1)
+-- 2 as the code tests it
+pub logs_by : (lim : Limits) (rs : List Record) (l : List ℕ) (scratch places : ℕ)
+    → logs_fail_in (opening_of lim rs l scratch places)
+    ≡ (not (leb 12 lim.log2_block && leb lim.log2_block 16) || list_any (other lim.log2_block) rs)
+unfolding logs_fail_in
+logs_by lim rs l scratch places =
+    by_lt lim.log2_block 12 (λ h. rw (lt-ltb _ _ h, lt-leb 12 lim.log2_block h) refl)
+    (λ h. by_lt 16 lim.log2_block (λ g. rw (le-ltb _ _ h, lt-ltb _ _ g, le-leb _ _ h, lt-leb lim.log2_block 16 g) refl)
+    (λ g. simp (le-ltb _ _ h, le-ltb _ _ g, le-leb _ _ h, le-leb _ _ g) (any_fails lim h g rs)))

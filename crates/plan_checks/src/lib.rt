@@ -2,47 +2,43 @@
 // share a number.
 #![tactic(auto)]
 
+mod container;
 mod each;
 mod lists;
 mod shared;
 
 ghost use Rattle.std.specs.Prelude.{◌≡◌, length};
-ghost use Rattle.plan_checks.specs.Opening.{opening_of};
+ghost use Rattle.numbers.specs.Refusals.{refusal_in};
+ghost use Rattle.plan_checks.specs.Opening.{opening_from};
 ghost use Rattle.plan_checks.specs.Early.{early_refusal};
 
+pub use container::{EachRecord, Opening};
 use each::check_all;
-use footprint::Limits;
-use lists::{length_fine, lists_fine, logs_fine};
-use plan_record::Record;
+use lists::{length_fails, lists_fail, logs_fail};
+use numbers::Refusal;
 use shared::share;
 
-// Document 01's refusal of an open for all but 15, 0 where there is none. places is how many regions
-// the lists have room for that are lent for the plan.
+// Document 01's refusal of an open for all but 15. places is how many regions the lists have room for
+// that are lent for the plan.
 pub fn early_refusal(
-    limits: Limits,
-    records: [Record; 64],
-    count: usize,
-    listed: &[u64],
+    opening: Opening<'_>,
     scratch: &mut [u64],
     places: usize,
-) -> u64
-    ensures { result ≡ early_refusal (opening_of limits records count listed.now (length scratch.old) places) }
+) -> Result<(), Refusal>
+    ensures { refusal_in result ≡ early_refusal (opening_from opening.entry (length scratch.old) places) }
 {
-    if !lists_fine(limits, records, count, listed, scratch.len(), places) {
-        return 1;
+    if lists_fail(opening, scratch.len(), places) {
+        return Err(Refusal::Lists);
     }
-    if !logs_fine(limits, records, count) {
-        return 2;
+    if logs_fail(opening) {
+        return Err(Refusal::Block);
     }
-    if !length_fine(limits) {
-        return 3;
+    if length_fails(opening.limits) {
+        return Err(Refusal::Length);
     }
-    let refusal = check_all(limits, records, count, listed, scratch);
-    if refusal != 0 {
-        return refusal;
+    check_all(opening, scratch)?;
+    if share(opening.records) {
+        return Err(Refusal::NumberHeld);
     }
-    if share(records, count) {
-        return 14;
-    }
-    0
+    Ok(())
 }

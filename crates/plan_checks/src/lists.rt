@@ -1,132 +1,80 @@
 // Refusals 1, 2 and 3, which are tested over all records.
-ghost use Rattle.std.specs.Prelude.{◌≤◌, false, ◌≡◌};
-ghost use Rattle.model.proofs.Opening.{ListsIn, LogsIn};
-ghost use Rattle.model.specs.Open.{length_fails};
-ghost use Rattle.plan_checks.specs.Opening.{records_of, opening_of};
-ghost use Rattle.plan_checks.specs.Early.{Tells, Within, Tallied, AllLogs};
-ghost use Rattle.plan_record.specs.Record.{record_of};
+ghost use Rattle.std.specs.Prelude.{◌≤◌, ◌≡◌, ◌||◌, ◌&&◌, ◌+◌, not, eqb, ltb, length, map, sum, ℕ};
+ghost use Rattle.std.specs.List.{list_any};
+ghost use Rattle.model.specs.Open.{lists_fail_in, logs_fail_in, length_fails};
+ghost use Rattle.plan_checks.specs.Opening.{opening_from};
 
+use crate::Opening;
 use footprint::{Limits, max_extents};
 use plan_record::Record;
 
-// Whether every count is within its limit, and then how many extents the headers list and how many
-// ranges the footprints have.
-#[derive(Clone, Copy)]
-struct Sums {
-    fine: bool,
-    listed: usize,
-    ranges: usize,
+// Whether a record counts too many extents, in its entry or its header, or has too long a name.
+fn some_over(records: &[Record], most: usize) -> bool
+    ensures { result ≡ list_any (λ r. ltb 60 r.entry.extent_count || ltb 24 r.name.len || ltb most r.header.extent_count) records.now }
+{
+    records.iter().any(|one| {
+        one.entry.extent_count > 60 || one.name.len > 24 || one.header.extent_count as usize > most
+    })
 }
 
-// Whether a record's counts are within their limits.
-#[tactic(auto, using(crate::proofs::Tallying::over_count, crate::proofs::Tallying::over_name, crate::proofs::Tallying::within_rest))]
-fn within(one: Record, most: usize) -> bool
-    ensures { Tells (Within most (record_of one)) result }
+// How many extents the headers list.
+fn all_listed(records: &[Record]) -> usize
+    requires { length records.now ≤ 64 }
+    ensures { result ≡ sum (map (λ r. r.header.extent_count) records.now) }
 {
-    let entry = one.entry;
-    let header = one.header;
-    if entry.extent_count > 60 {
-        return false;
-    }
-    if one.name_len > 24 {
-        return false;
-    }
-    header.extent_count as usize <= most
+    records
+        .iter()
+        .map(|one| one.header.extent_count as usize)
+        .sum()
 }
 
-fn tally(records: [Record; 64], count: usize, most: usize) -> Sums
-    requires { count ≤ 64 }
-    ensures { Tallied most (records_of records count) result.fine result.listed result.ranges }
+// How many ranges the footprints have.
+fn all_ranges(records: &[Record]) -> usize
+    requires { length records.now ≤ 64 }
+    ensures { result ≡ sum (map (λ r. r.entry.extent_count + 2) records.now) }
 {
-    let mut listed = 0;
-    let mut ranges = 0;
-    let mut i = 0;
-    while i < count {
-        let one = records[i];
-        if !within(one, most) {
-            return Sums {
-                fine: false,
-                listed: 0,
-                ranges: 0,
-            };
-        }
-        let entry = one.entry;
-        let header = one.header;
-        listed += header.extent_count as usize;
-        ranges += entry.extent_count as usize + 2;
-        i += 1;
-    }
-    Sums {
-        fine: true,
-        listed,
-        ranges,
-    }
+    records
+        .iter()
+        .map(|one| one.entry.extent_count as usize + 2)
+        .sum()
 }
 
-// Whether 1 does not apply.
-pub(crate) fn lists_fine(
-    limits: Limits,
-    records: [Record; 64],
-    count: usize,
-    listed: &[u64],
-    scratch: usize,
-    places: usize,
-) -> bool
-    ensures { Tells (ListsIn (opening_of limits records count listed.now scratch places)) result }
+// Refusal 1.
+#[tactic(auto, using(crate::proofs::Listing::lists_by))]
+pub(crate) fn lists_fail(opening: Opening<'_>, scratch: usize, places: usize) -> bool
+    ensures { result ≡ lists_fail_in (opening_from opening.entry scratch places) }
 {
-    if count > 64 {
-        return false;
+    let records = opening.records;
+    let listed = opening.listed.len();
+    if records.len() > 64 || some_over(records, max_extents(opening.limits.log2_block)) {
+        return true;
     }
-    let sums = tally(records, count, max_extents(limits.log2_block));
-    if !sums.fine {
-        return false;
+    if listed % 2 != 0 || listed / 2 != all_listed(records) {
+        return true;
     }
-    if listed.len() % 2 != 0 {
-        return false;
-    }
-    if listed.len() / 2 != sums.listed {
-        return false;
-    }
-    if scratch / 16 < sums.ranges {
-        return false;
-    }
-    places >= 64
+    scratch / 16 < all_ranges(records) || places < 64
 }
 
-// Whether 2 does not apply.
-pub(crate) fn logs_fine(limits: Limits, records: [Record; 64], count: usize) -> bool
-    requires { count ≤ 64 }
-    ensures { Tells (AllLogs limits (records_of records count)) result }
+// Whether a header's block log is neither 9 nor the container's.
+fn some_other(records: &[Record], own: u8) -> bool
+    ensures { result ≡ list_any (λ r. not (eqb r.header.log2_block 9) && not (eqb r.header.log2_block own)) records.now }
 {
-    let own = limits.log2_block;
-    if own < 12 {
-        return false;
-    }
-    if own > 16 {
-        return false;
-    }
-    let mut i = 0;
-    while i < count {
-        let one = records[i];
-        let header = one.header;
-        i += 1;
-        if header.log2_block == 9 {
-            continue;
-        }
-        if header.log2_block == own {
-            continue;
-        }
-        return false;
-    }
-    true
+    records.iter().any(|one| one.header.log2_block != 9 && one.header.log2_block != own)
 }
 
-// Whether 3 does not apply.
-pub(crate) fn length_fine(limits: Limits) -> bool
-    ensures { Tells (length_fails limits ≡ false) result }
+// Refusal 2.
+#[tactic(auto, using(crate::proofs::Logging::logs_by))]
+pub(crate) fn logs_fail(opening: Opening<'_>) -> bool
+    ensures { (scratch places : ℕ) → result ≡ logs_fail_in (opening_from opening.entry scratch places) }
 {
-    if limits.file_len < limits.table_end {
-        return false;
-    }
-    limits.file_len <= 0x7fff_ffff_ffff_ffff
+    let own = opening.limits.log2_block;
+    !(12..=16).contains(&own) || some_other(opening.records, own)
+}
+
+// Refusal 3.
+#[tactic(auto, unfolding(model::specs::Open::length_fails))]
+pub(crate) fn length_fails(limits: Limits) -> bool
+    ensures { result ≡ length_fails limits }
+{
+    limits.file_len < limits.table_end || limits.file_len > 0x7fff_ffff_ffff_ffff
 }

@@ -1,2 +1,3 @@
 pub mod Chaining
 pub mod Coding
+pub mod Bringing

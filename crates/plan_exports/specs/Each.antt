@@ -1,5 +1,6 @@
 -- Calls one after another, each with the promise of the single call: what the loops for the benchmark do.
-use Rattle.std.specs.Prelude.{ℕ, ◌+◌, Bool, true, false, ◌||◌, cond, List, [], ◌∷◌, ◌≡◌, ltb, eqb, length, get_or, set, drop}
+use Rattle.plan_record.specs.Plan.{Reply}
+use Rattle.std.specs.Prelude.{ℕ, ◌+◌, Bool, true, false, ◌||◌, cond, List, [], ◌∷◌, ◌≡◌, ltb, eqb, length, get_or, set, drop, is_ok}
 use Rattle.flat.specs.Chain.{Chain}
 use Rattle.flat_plan.specs.Plan.{plan_from, flat_plan, flat_reply}
 use Rattle.flat_plan.specs.declared.FlatPlan.{FlatPlan}
@@ -7,15 +8,7 @@ use Rattle.plan.specs.Calls.{Changes, Leaves, Grows, Locates}
 use Rattle.plan_exports.specs.declared.each.FlatEach.{FlatEach}
 use Rattle.plan_record.specs.declared.Outcome.{Outcome}
 use Rattle.plan_record.specs.declared.Plan.{Plan}
-use Rattle.plan_record.specs.declared.Reply.{Reply}
-use Rattle.plan_record.specs.declared.Reply.TheVariants.{At, Done, Refused}
 use Rattle.model.specs.Calls as model
-
--- 1 where a call was accepted, else 0.
-abbrev pub accepts : Reply → ℕ
-accepts (At a) = 1
-accepts Done = 1
-accepts (Refused n) = 0
 
 -- A region, and a number: a position of it, or a length.
 pub record Asked : Type 0 where
@@ -62,7 +55,7 @@ pub record Called (tag : ℕ) (name : List ℕ) (x : Coded) (s t : Calling) : Ty
   pub outcome : Outcome
   pub promise : Calls x.code x.id x.number tag name s.plan s.extents s.starts s.files t.extents t.starts t.files outcome
   pub plan : t.plan ≡ outcome.plan
-  pub count : t.accepted ≡ s.accepted + accepts outcome.reply
+  pub count : t.accepted ≡ s.accepted + cond (is_ok outcome.reply) 1 0
 
 -- None is made where there are fewer regions or numbers than codes.
 abbrev pub too_few : (cs is ns : List ℕ) → Bool

@@ -1,10 +1,9 @@
 // Calls one after another, for the benchmark: a plan as flat numbers and back costs more than most calls.
-ghost use Rattle.std.specs.Prelude.{◌≡◌, ◌≤◌};
 ghost use Rattle.flat_plan.specs.Plan.{plan_from};
-ghost use Rattle.plan_exports.specs.Each.{accepts, Calls, CallsEach, LocatesEach};
+ghost use Rattle.plan_exports.specs.Each.{Calls, CallsEach, LocatesEach};
 
-use flat_plan::{FlatPlan, flat_plan, flat_reply, plan_from};
-use plan_record::{Outcome, Plan, Reply};
+use flat_plan::{FlatPlan, FlatReply};
+use plan_record::{Outcome, Plan};
 
 // How many calls were accepted, and the plan as the last one left it.
 #[repr(C)]
@@ -14,18 +13,9 @@ pub struct FlatEach {
     pub plan: FlatPlan,
 }
 
-// 1 where a call was accepted, else 0.
-fn accepted(reply: Reply) -> u64
-    ensures { (result ≡ accepts reply) × (result ≤ 1) }
-{
-    match reply {
-        Reply::At(_) => 1,
-        Reply::Done => 1,
-        Reply::Refused(_) => 0,
-    }
-}
-
-// One call: 0 is create, 1 grow, 2 publish, whose length is the number, and any other drop.
+// One call, by a code, since the codes come from C: 0 is create, 1 grow, 2 publish, whose length is the
+// number, and any other drop.
+#[tactic(auto, using(crate::proofs::Coding::by_create, crate::proofs::Coding::by_grow, crate::proofs::Coding::by_publish, crate::proofs::Coding::by_drop))]
 fn call(
     plan: Plan,
     extents: &mut [u64],
@@ -39,20 +29,17 @@ fn call(
 ) -> Outcome
     ensures { Calls code id number tag name.now plan extents.old starts.old files.old extents.new starts.new files.new result }
 {
-    if code == 0 {
-        return plan::create(plan, extents, starts, files, id, tag, name);
+    match code {
+        0 => plan::create(plan, extents, starts, files, id, tag, name),
+        1 => plan::grow(plan, extents, starts, files, id),
+        2 => plan::publish(plan, id, number),
+        _ => plan::drop(plan, extents, starts, files, id),
     }
-    if code == 1 {
-        return plan::grow(plan, extents, starts, files, id);
-    }
-    if code == 2 {
-        return plan::publish(plan, id, number);
-    }
-    plan::drop(plan, extents, starts, files, id)
 }
 
 // Makes each call on the plan as the last one left it; regions are created with this tag and name.
 // None is made where ids or numbers has too few places.
+#[tactic(auto, using(crate::proofs::Chaining::codeds_next, crate::proofs::Chaining::codeds_end))]
 #[unsafe(no_mangle)]
 pub extern "C" fn fundravai_plan_call_each(
     flat: FlatPlan,
@@ -67,38 +54,30 @@ pub extern "C" fn fundravai_plan_call_each(
 ) -> FlatEach
     ensures { CallsEach tag name.now codes.now ids.now numbers.now flat extents.old starts.old files.old extents.new starts.new files.new result }
 {
-    if ids.len() < codes.len() {
+    if ids.len() < codes.len() || numbers.len() < codes.len() {
         return FlatEach {
             accepted: 0,
             plan: flat,
         };
     }
-    if numbers.len() < codes.len() {
-        return FlatEach {
-            accepted: 0,
-            plan: flat,
-        };
-    }
-    let mut plan = plan_from(flat);
-    let mut done = 0;
-    let mut i = 0;
-    while i < codes.len() {
+    let mut plan = Plan::from(flat);
+    let mut accepted = 0;
+    for (i, &code) in codes.iter().enumerate() {
         let outcome = call(
-            plan, extents, starts, files, codes[i], ids[i], numbers[i], tag, name,
+            plan, extents, starts, files, code, ids[i], numbers[i], tag, name,
         );
-        let reply = outcome.reply;
         plan = outcome.plan;
-        done += accepted(reply);
-        i += 1;
+        accepted += outcome.reply.is_ok() as u64;
     }
     FlatEach {
-        accepted: done,
-        plan: flat_plan(plan),
+        accepted,
+        plan: plan.into(),
     }
 }
 
 // Locates each position of its region, and answers how many were located. The byte, or the refusal's
 // number, goes to its place in bytes. Nothing is asked where positions or bytes has too few places.
+#[tactic(auto, using(crate::proofs::Chaining::askeds_next, crate::proofs::Chaining::askeds_end))]
 #[unsafe(no_mangle)]
 pub extern "C" fn fundravai_plan_locate_each(
     flat: FlatPlan,
@@ -111,20 +90,15 @@ pub extern "C" fn fundravai_plan_locate_each(
 ) -> u64
     ensures { LocatesEach (plan_from flat) starts.now files.now n ids.now positions.now bytes.old bytes.new result }
 {
-    if positions.len() < ids.len() {
+    if positions.len() < ids.len() || bytes.len() < ids.len() {
         return 0;
     }
-    if bytes.len() < ids.len() {
-        return 0;
-    }
-    let plan = plan_from(flat);
+    let plan = Plan::from(flat);
     let mut located = 0;
-    let mut i = 0;
-    while i < ids.len() {
-        let told = flat_reply(plan::locate(plan, starts, files, ids[i], positions[i], n));
+    for (i, &id) in ids.iter().enumerate() {
+        let told = FlatReply::from(plan::locate(plan, starts, files, id, positions[i], n));
         bytes[i] = told.value;
         located += (told.kind == 1) as u64;
-        i += 1;
     }
     located
 }

@@ -11,13 +11,14 @@ ghost use Rattle.flat_plan.specs.Record.{records_from};
 ghost use Rattle.model.specs.Calls as model;
 ghost use Rattle.plan.specs.Calls.{Changes, Leaves, Grows, Locates};
 ghost use Rattle.plan_open.specs.Open.{opening_of, Opens};
-ghost use Rattle.plan_exports.specs.Flat.{limits_of, FlatCalled, FlatReplied};
+ghost use Rattle.plan_exports.specs.Flat.{limits_of, brought, FlatCalled, FlatReplied};
 
 use flat::cap_from;
-use flat_plan::{
-    FlatOutcome, FlatPlan, FlatRecord, FlatReply, flat_outcome, flat_reply, plan_from, records_from,
-};
+use flat_plan::{FlatOutcome, FlatPlan, FlatRecord, FlatReply, records_from};
 use footprint::Limits;
+use numbers::Refusal;
+use plan_open::Opening;
+use plan_record::{Outcome, Plan};
 
 // As many records as open takes.
 #[repr(C)]
@@ -26,6 +27,7 @@ pub struct FlatRecords {
     pub records: [FlatRecord; 64],
 }
 
+// Opens a container with the first count records.
 #[unsafe(no_mangle)]
 pub extern "C" fn fundravai_plan_open(
     log2: u8,
@@ -39,19 +41,26 @@ pub extern "C" fn fundravai_plan_open(
     starts: &mut [u64],
     files: &mut [u64],
 ) -> FlatOutcome
-    ensures { FlatCalled (Opens (opening_of (limits_of log2 table file) (records_from flat.records) count listed.now scratch.old extents.old starts.old files.old) extents.old extents.new starts.old starts.new files.old files.new) result }
+    ensures { FlatCalled (Opens (opening_of (limits_of log2 table file) (brought count (records_from flat.records)) listed.now scratch.old extents.old starts.old files.old) extents.old extents.new starts.old starts.new files.old files.new) result }
 {
-    let limits = Limits {
-        log2_block: log2,
-        table_end: table,
-        file_len: file,
+    let records = records_from(flat.records);
+    if count > 64 {
+        let refused = Outcome {
+            reply: Err(Refusal::Lists),
+            plan: Plan::blank(),
+        };
+        return refused.into();
+    }
+    let opening = Opening {
+        limits: Limits {
+            log2_block: log2,
+            table_end: table,
+            file_len: file,
+        },
+        records: &records[..count],
+        listed,
     };
-    let all = flat.records;
-    let records = records_from(all);
-    let outcome = plan_open::open(
-        limits, records, count, listed, scratch, extents, starts, files,
-    );
-    flat_outcome(outcome)
+    plan_open::open(opening, scratch, extents, starts, files).into()
 }
 
 #[unsafe(no_mangle)]
@@ -66,9 +75,7 @@ pub extern "C" fn fundravai_plan_create(
 ) -> FlatOutcome
     ensures { FlatCalled (Leaves (plan_from flat) (model.create id tag name.now) extents.old starts.old files.old extents.new starts.new files.new) result }
 {
-    let plan = plan_from(flat);
-    let outcome = plan::create(plan, extents, starts, files, id, tag, name);
-    flat_outcome(outcome)
+    plan::create(flat.into(), extents, starts, files, id, tag, name).into()
 }
 
 #[unsafe(no_mangle)]
@@ -81,18 +88,14 @@ pub extern "C" fn fundravai_plan_grow(
 ) -> FlatOutcome
     ensures { FlatCalled (Grows (plan_from flat) (model.grow id) id extents.old starts.old files.old extents.new starts.new files.new) result }
 {
-    let plan = plan_from(flat);
-    let outcome = plan::grow(plan, extents, starts, files, id);
-    flat_outcome(outcome)
+    plan::grow(flat.into(), extents, starts, files, id).into()
 }
 
 #[unsafe(no_mangle)]
 pub extern "C" fn fundravai_plan_publish(flat: FlatPlan, id: u64, len: u64) -> FlatOutcome
     ensures { FlatCalled (Changes (plan_from flat) (model.publish id len)) result }
 {
-    let plan = plan_from(flat);
-    let outcome = plan::publish(plan, id, len);
-    flat_outcome(outcome)
+    plan::publish(flat.into(), id, len).into()
 }
 
 #[unsafe(no_mangle)]
@@ -105,9 +108,7 @@ pub extern "C" fn fundravai_plan_drop(
 ) -> FlatOutcome
     ensures { FlatCalled (Leaves (plan_from flat) (model.drop id) extents.old starts.old files.old extents.new starts.new files.new) result }
 {
-    let plan = plan_from(flat);
-    let outcome = plan::drop(plan, extents, starts, files, id);
-    flat_outcome(outcome)
+    plan::drop(flat.into(), extents, starts, files, id).into()
 }
 
 // The cap is two numbers: whether there is one, and the limit, else 0.
@@ -120,10 +121,7 @@ pub extern "C" fn fundravai_plan_cap(
 ) -> FlatOutcome
     ensures { FlatCalled (Changes (plan_from flat) (model.cap tag (cap_from capped limit))) result }
 {
-    let plan = plan_from(flat);
-    let cap = cap_from(capped, limit);
-    let outcome = plan::cap(plan, tag, cap);
-    flat_outcome(outcome)
+    plan::cap(flat.into(), tag, cap_from(capped, limit)).into()
 }
 
 #[unsafe(no_mangle)]
@@ -137,7 +135,5 @@ pub extern "C" fn fundravai_plan_locate(
 ) -> FlatReply
     ensures { FlatReplied (Locates (plan_from flat) id pos n starts.now files.now) result }
 {
-    let plan = plan_from(flat);
-    let reply = plan::locate(plan, starts, files, id, pos, n);
-    flat_reply(reply)
+    plan::locate(flat.into(), starts, files, id, pos, n).into()
 }

@@ -1,16 +1,17 @@
 -- Three loops: the highest sequence number, a row for each region, and the usages.
-use Prim.Native.Nat.{ℕ, ◌-◌, ◌+◌, ◌≤◌, ◌<◌, max}
-use mathlib.Core.List.{List, map, reverse}
-use mathlib.Core.Path.{◌≡◌, ap, sym, subst, ◌∙◌}
+use Prim.Native.Nat.{ℕ, ◌+◌, ◌*◌, ◌≤◌, ◌<◌, max, min}
+use mathlib.Core.List.{List, [], ◌∷◌, ◌++◌, append_assoc, append-nil, map, map-append, reverse, reverse-cons}
+use mathlib.Core.Path.{◌≡◌, refl, ap, sym, ◌∙◌}
 use native.Mathlib.Omega.{arith}
-use lib.ListN.{length, get_or, drop, set, replicate, length-map, length-set, length-reverse, length-replicate}
+use lib.ListN.{length, get_or, set, replicate, length-append, length-map, length-set, length-reverse, length-replicate}
+use Rattle.std.specs.List.{fold}
 use lib.Seq.{get_or-set_same, get_or-set_other}
 use Rattle.footprint.specs.Footprint.{block_of}
+use Rattle.numbers.specs.Sums.{top}
 use Rattle.footprint.specs.declared.Limits.{Limits}
 use Rattle.numbers.specs.Lists.{written}
-use Rattle.numbers.specs.Sums.{stop}
-use Rattle.plan_checks.specs.Opening.{past_record, blank_record, records_of}
-use Rattle.plan_open.specs.Accounts.{tag_of, size_of, len_with, UsageIn, Room}
+use Rattle.plan_checks.specs.Opening.{records_of}
+use Rattle.plan_open.specs.Accounts.{tag_of, size_of, len_of, UsageIn, Room}
 use Rattle.plan_open.specs.Build.{Rows}
 use Rattle.plan_record.specs.Plan.{blank_region, past_region}
 use Rattle.plan_record.specs.Record.{record_of}
@@ -18,44 +19,16 @@ use Rattle.plan_record.specs.declared.Record.{Record}
 use Rattle.plan_record.specs.declared.Region.{Region}
 use Rattle.plan_settled.specs.Settled.{seq_of}
 use Rattle.numbers.proofs.Cases.{by_eq}
-use Rattle.numbers.proofs.Lists.{mapped_at, reverse_at}
-use Rattle.plan_checks.proofs.Reading.{records_length, record_at, fields_next, fields_end}
-use Rattle.plan_settled.proofs.Filling.{Filling, fill_begins, fill_size, fill_on, fill_all}
+use Rattle.numbers.proofs.Lists.{written_next}
 use Rattle.model.specs.Open as model
 
 -- ---- the highest sequence number
 
-abbrev seqs : List Record → ℕ → List ℕ
-seqs rs n = map seq_of (records_of rs n)
-
--- last is the highest of the first i
-pub record Climbing (rs : List Record) (n last i : ℕ) : Type 0 where
-  pub few : n ≤ 64
-  pub inside : i ≤ n
-  pub rest : model.highest (seqs rs n) ≡ max last (model.highest (drop i (seqs rs n)))
-
-pub climb_begins : (rs : List Record) (n : ℕ) → n ≤ 64 → Climbing rs n 0 0
-climb_begins rs n h = record { few = h; inside = omega arith; rest = omega arith }
-
-module _ {rs : List Record} {n last i : ℕ} (g : Climbing rs n last i) where
-  abbrev this : ℕ
-  this = (get_or rs i past_record).entry.footprint_seq
-
-  climb_next : i < n → model.highest (drop i (seqs rs n)) ≡ max this (model.highest (drop (i + 1) (seqs rs n)))
-  unfolding model.highest
-  climb_next h = rw (fields_next seq_of rs n i h)
-
-  pub climb_higher : i < n → last < this → Climbing rs n this (i + 1)
-  climb_higher h k = let e = climb_next h in record { few = g.few; inside = omega arith; rest = g.rest ∙ omega (arith, e) }
-
-  pub climb_on : i < n → this ≤ last → Climbing rs n last (i + 1)
-  climb_on h k = let e = climb_next h in record { few = g.few; inside = omega arith; rest = g.rest ∙ omega (arith, e) }
-
-  pub climb_ends : n ≤ i → last ≡ model.highest (seqs rs n)
-  unfolding model.highest
-  climb_ends h =
-      let e : model.highest (drop i (seqs rs n)) ≡ 0 = rw (fields_end seq_of rs n i h) in
-      omega (arith, g.rest, e)
+pub fold_highest : (n : ℕ) (rs : List Record) → fold (λ (a : ℕ) (r : Record). max a r.entry.footprint_seq) n rs
+    ≡ max n (model.highest (map seq_of (records_of rs)))
+unfolding model.highest
+fold_highest n [] = omega arith
+fold_highest n (r ∷ rs) = fold_highest (max n r.entry.footprint_seq) rs ∙ omega arith
 
 -- ---- a row for each region
 
@@ -64,12 +37,17 @@ pub record Rowing (gs : List Region) (i : ℕ) : Type 0 where
   pub full : length gs ≡ 64
   pub row : (j : ℕ) → j < i → (get_or gs j past_region).row ≡ j
 
+none_left : (rest : List Record) → length rest ≡ 0 → rest ≡ []
+none_left [] z = refl
+none_left (r ∷ rest) z = absurd (omega arith)
+
 pub row_begins : (gs : List Region) → gs ≡ replicate 64 (blank_region 0) → Rowing gs 0
 row_begins gs e =
     record { inside = omega arith; full = ap length e ∙ length-replicate 64 (blank_region 0); row = λ j h. absurd (omega arith) }
 
 -- a region that names its row, set in its place
-pub row_set : (gs : List Region) (i : ℕ) (g : Region) → length gs ≡ 64 → i < 64 → g.row ≡ i → (j : ℕ) → ((j ≡ i → ⊥) → (get_or gs j past_region).row ≡ j)
+pub row_set : (gs : List Region) (i : ℕ) (g : Region) → length gs ≡ 64 → i < 64 → g.row ≡ i → (j : ℕ)
+    → ((j ≡ i → ⊥) → (get_or gs j past_region).row ≡ j)
     → (get_or (set gs i g) j past_region).row ≡ j
 row_set gs i g l h e j f =
     by_eq j i (λ q. rw (q, get_or-set_same gs i g past_region (omega arith)) e) (λ d. rw (get_or-set_other gs i j g past_region d) (f d))
@@ -87,70 +65,74 @@ row_ends gs i r h = record { full = r.full; row = λ j k. r.row j (omega arith) 
 
 -- ---- the usages, the last record's first
 
-module _ (f : model.Record → ℕ) (rs : List Record) (n : ℕ) where
-  abbrev turned : List ℕ
-  turned = map f (reverse (records_of rs n))
+pub len_is : (lim : Limits) (m : model.Record) (b len : ℕ) → b ≡ block_of lim → b ≤ 65536 → len ≡ min (2 * b + m.entry.capacity) top
+    → len ≡ len_of lim m
+len_is lim m b len e h q = rw (q, sym e) (omega arith)
 
-  turned_length : length turned ≡ n
-  turned_length = length-map (reverse (records_of rs n)) f ∙ length-reverse (records_of rs n) ∙ records_length rs n
+-- those of the records behind rest are listed
+pub record Using (lim : Limits) (rs rest : List Record) (tags₀ tags logical₀ logical physical₀ physical : List ℕ) (i : ℕ) : Type 0 where
+  pub done : List Record
+  pub whole : rest ++ done ≡ rs
+  pub count : i ≡ length done
+  pub listed : UsageIn lim (reverse (records_of done)) tags₀ tags logical₀ logical physical₀ physical
 
-  turned_at : (i : ℕ) → i < n → get_or turned i 0 ≡ f (record_of (get_or rs (n - 1 - i) past_record))
-  turned_at i h =
-      let l = records_length rs n in
-      let k = length-reverse (records_of rs n) in
-      let e : length (records_of rs n) - 1 - i ≡ n - 1 - i = omega arith in
-      mapped_at f (reverse (records_of rs n)) i blank_record 0 (omega arith)
-      ∙ ap f (reverse_at (records_of rs n) i blank_record (omega arith) ∙ ap (λ (j : ℕ). get_or (records_of rs n) j blank_record) e ∙ record_at rs n (n - 1 - i) (omega arith))
-
-pub record Using (blocks : ℕ) (rs : List Record) (n : ℕ) (tags₀ tags logical₀ logical physical₀ physical : List ℕ) (i : ℕ) : Type 0 where
-  pub space : Room n (length tags₀) (length logical₀) (length physical₀)
-  pub in_tags : Filling (turned tag_of rs n) tags₀ tags i
-  pub in_logical : Filling (turned size_of rs n) logical₀ logical i
-  pub in_physical : Filling (turned (len_with blocks) rs n) physical₀ physical i
-
-pub use_begins : (blocks : ℕ) (rs : List Record) (n : ℕ) (tags logical physical : List ℕ) → Room n (length tags) (length logical) (length physical)
-    → Using blocks rs n tags tags logical logical physical physical 0
-use_begins blocks rs n tags logical physical r =
+pub use_begins : (lim : Limits) (rs : List Record) (tags logical physical : List ℕ) (i : ℕ) → i ≡ 0 → (rest : List Record) → rest ≡ rs
+    → Using lim rs rest tags tags logical logical physical physical i
+use_begins lim rs tags logical physical i z rest e =
     record {
-      space = r;
-      in_tags = fill_begins (turned tag_of rs n) tags;
-      in_logical = fill_begins (turned size_of rs n) logical;
-      in_physical = fill_begins (turned (len_with blocks) rs n) physical;
+      done = [];
+      whole = append-nil rest ∙ e;
+      count = z;
+      listed = record { all_tags = refl; all_logical = refl; all_physical = refl };
     }
 
-module _ {blocks : ℕ} {rs : List Record} {n : ℕ} {tags₀ tags logical₀ logical physical₀ physical : List ℕ} {i : ℕ} (g : Using blocks rs n tags₀ tags logical₀ logical physical₀ physical i) where
-  pub use_room : i < n → (i < length tags) × (i < length logical) × (i < length physical)
-  use_room h =
-      let a = fill_size g.in_tags in
-      let b = fill_size g.in_logical in
-      let c = fill_size g.in_physical in
-      let r = g.space in
-      (omega (arith, r.for_tags), omega (arith, r.for_logical), omega (arith, r.for_physical))
+module _ (f : model.Record → ℕ) (done : List Record) (one : Record) where
+  turned_next : map f (reverse (records_of (one ∷ done))) ≡ map f (reverse (records_of done)) ++ (f (record_of one) ∷ [])
+  turned_next = ap (map f) (reverse-cons (record_of one) (records_of done)) ∙ map-append f (reverse (records_of done)) (record_of one ∷ [])
 
-  abbrev from_behind : model.Record
-  from_behind = record_of (get_or rs (n - 1 - i) past_record)
+  turned_length : length (map f (reverse (records_of done))) ≡ length done
+  turned_length = length-map (reverse (records_of done)) f ∙ length-reverse (records_of done) ∙ length-map done record_of
 
-  pub use_on : i < n → (len : ℕ) → len ≡ len_with blocks from_behind
-      → Using blocks rs n tags₀ (set tags i (tag_of from_behind)) logical₀ (set logical i (size_of from_behind)) physical₀ (set physical i len) (i + 1)
-  use_on h len e =
-      let r = g.space in
-      let a = turned_length tag_of rs n in
-      let b = turned_length size_of rs n in
-      let c = turned_length (len_with blocks) rs n in
-      record {
-        space = r;
-        in_tags = fill_on g.in_tags _ 0 (turned_at tag_of rs n i h) (omega arith) (omega (arith, r.for_tags));
-        in_logical = fill_on g.in_logical _ 0 (turned_at size_of rs n i h) (omega arith) (omega (arith, r.for_logical));
-        in_physical = fill_on g.in_physical len 0 (turned_at (len_with blocks) rs n i h ∙ sym e) (omega arith) (omega (arith, r.for_physical));
-      }
+  turned_on : (s₀ s : List ℕ) (x : ℕ) → length done < length s₀ → x ≡ f (record_of one) → s ≡ written (map f (reverse (records_of done))) s₀
+      → set s (length done) x ≡ written (map f (reverse (records_of (one ∷ done)))) s₀
+  turned_on s₀ s x h q e =
+      rw (q, e, turned_next) (written_next (map f (reverse (records_of done))) s₀ (length done) (f (record_of one)) turned_length h)
 
-  pub use_ends : (lim : Limits) → blocks ≡ stop (block_of lim + block_of lim) → n ≤ i → UsageIn lim (records_of rs n) tags₀ tags logical₀ logical physical₀ physical
-  use_ends lim e h =
-      let a = turned_length tag_of rs n in
-      let b = turned_length size_of rs n in
-      let c = turned_length (len_with blocks) rs n in
-      record {
-        all_tags = fill_all g.in_tags (omega arith);
-        all_logical = fill_all g.in_logical (omega arith);
-        all_physical = subst (λ (b : ℕ). physical ≡ written (turned (len_with b) rs n) physical₀) e (fill_all g.in_physical (omega arith));
-      }
+module _ {lim : Limits} {rs rest : List Record} {tags₀ tags logical₀ logical physical₀ physical : List ℕ} {n : ℕ}
+    (g : Using lim rs rest tags₀ tags logical₀ logical physical₀ physical n)
+    (r : Room (length rs) (length tags₀) (length logical₀) (length physical₀)) where
+  -- one more stands behind what is then left
+  module _ (left : List Record) (one : Record) (e : rest ≡ left ++ (one ∷ [])) (i m : ℕ) (p : i ≡ n) (q : m ≡ n + 1) where
+    behind : left ++ (one ∷ g.done) ≡ rs
+    behind = sym (append_assoc left (one ∷ []) g.done) ∙ ap (λ (l : List Record). l ++ g.done) (sym e) ∙ g.whole
+
+    pub use_room : i < length rs
+    use_room =
+        let a = ap length behind in
+        let b = length-append left (one ∷ g.done) in
+        omega (arith, g.count)
+
+    pub use_on : (len : ℕ) → len ≡ len_of lim (record_of one)
+        → Using lim rs left tags₀ (set tags i one.tag) logical₀ (set logical i one.entry.data_size) physical₀ (set physical i len) m
+    use_on len w =
+        let k : i ≡ length g.done = p ∙ g.count in
+        let h = use_room in
+        record {
+          done = one ∷ g.done;
+          whole = behind;
+          count = omega (arith, g.count);
+          listed =
+              rw k (record {
+                all_tags = turned_on tag_of g.done one tags₀ tags one.tag (omega (arith, r.for_tags)) refl g.listed.all_tags;
+                all_logical =
+                    turned_on size_of g.done one logical₀ logical one.entry.data_size
+                    (omega (arith, r.for_logical)) refl g.listed.all_logical;
+                all_physical =
+                    turned_on (len_of lim) g.done one physical₀ physical len (omega (arith, r.for_physical)) w g.listed.all_physical;
+              });
+        }
+
+  pub use_ends : length rest ≡ 0 → UsageIn lim (reverse (records_of rs)) tags₀ tags logical₀ logical physical₀ physical
+  use_ends z =
+      let e : g.done ≡ rs = ap (λ (l : List Record). l ++ g.done) (sym (none_left rest z)) ∙ g.whole in
+      rw (sym e) g.listed

@@ -12,10 +12,12 @@ use Rattle.numbers.proofs.Cases.{by_lt}
 use Rattle.numbers.proofs.Pairs.{pairs_append, pairs_take, pairs_drop}
 
 module _ {A : Type 0} where
-  pub put_behind : (a e m : ℕ) (xs ys : List A) → a ≤ e → e ≤ m → e ≤ length xs → length ys ≡ e - a → drop m (put_mid a (e - a) xs ys) ≡ drop m xs
+  pub put_behind : (a e m : ℕ) (xs ys : List A) → a ≤ e → e ≤ m → e ≤ length xs → length ys ≡ e - a
+      → drop m (put_mid a (e - a) xs ys) ≡ drop m xs
   put_behind a e m xs ys h k l q =
       let f : e + (m - e) ≡ m = omega arith in
-      let split : (zs : List A) → drop m zs ≡ drop (m - e) (drop e zs) = λ zs. ap (λ (j : ℕ). drop j zs) (sym f) ∙ sym (drop-drop (m - e) e zs) in
+      let split : (zs : List A) → drop m zs ≡ drop (m - e) (drop e zs) =
+      λ zs. ap (λ (j : ℕ). drop j zs) (sym f) ∙ sym (drop-drop (m - e) e zs) in
       split (put_mid a (e - a) xs ys) ∙ ap (drop (m - e)) (drop_put a e xs ys h l q) ∙ sym (split xs)
 
   -- a row in front of the place a
@@ -45,14 +47,16 @@ module _ {A : Type 0} where
         let e : length ys ≡ 60 * i + 60 - 60 * i = omega arith in
         by_lt j i
         (λ h.
-        let s : length put ≡ length xs = same_len_mid (60 * i) (60 * i + 60 - 60 * i) xs ys (e ∙ sym (mid_len (60 * i) (60 * i + 60) xs l)) in
+        let s : length put ≡ length xs =
+        same_len_mid (60 * i) (60 * i + 60 - 60 * i) xs ys (e ∙ sym (mid_len (60 * i) (60 * i + 60) xs l)) in
         row_before j (60 * i) put (omega arith) (omega arith)
         ∙ ap (row_in j) (take_put (60 * i) (60 * i + 60 - 60 * i) xs ys (omega arith))
         ∙ sym (row_before j (60 * i) xs (omega arith) (omega arith)))
         (λ h. ap (take 60) (put_behind (60 * i) (60 * i + 60) (60 * j) xs ys (omega arith) (omega (arith, d)) l e))
 
 -- the same of pairs
-pub pairs_put : (a k : ℕ) (xs ys : List ℕ) → 2 * a ≤ length xs → length ys % 2 ≡ 0 → pairs (put_mid (2 * a) (2 * k) xs ys) ≡ put_mid a k (pairs xs) (pairs ys)
+pub pairs_put : (a k : ℕ) (xs ys : List ℕ) → 2 * a ≤ length xs → length ys % 2 ≡ 0
+    → pairs (put_mid (2 * a) (2 * k) xs ys) ≡ put_mid a k (pairs xs) (pairs ys)
 pairs_put a k xs ys h e =
     let l = length-take-le (2 * a) xs h in
     pairs_append (take (2 * a) xs) (ys ++ drop (2 * k) (drop (2 * a) xs)) (omega arith)

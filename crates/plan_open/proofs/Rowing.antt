@@ -1,10 +1,10 @@
 -- One region in its row.
-use Prim.Native.Nat.{ℕ, ◌-◌, ◌*◌}
+use Prim.Native.Nat.{ℕ, ◌*◌}
 use mathlib.Core.List.{List, ◌++◌}
 use mathlib.Core.Path.{◌≡◌, refl, ap, ◌∙◌}
 use native.Mathlib.Omega.{arith}
 use lib.ListN.{length, take, drop, length-take}
-use lib.Seq.{take_all, take_at, length-take-le}
+use lib.Seq.{take_at, length-take-le}
 use Rattle.footprint.specs.Footprint.{committed}
 use Rattle.numbers.specs.Lists.{written}
 use Rattle.numbers.specs.Pairs.{pairs}
@@ -21,13 +21,13 @@ use Rattle.model.specs.Open as model
 module _ (r : model.Record) (own : List ℕ) (f : Fit r own) where
   -- the part of the own list that is committed, as the code takes it
   abbrev part : List ℕ
-  part = take (2 * count_of r - 0) own
+  part = take (2 * count_of r) own
 
-  part_length : length part ≡ 2 * count_of r
-  part_length = length-take-le (2 * count_of r - 0) own (omega (arith, f.listed)) ∙ omega arith
+  pub part_length : length part ≡ 2 * count_of r
+  part_length = length-take-le (2 * count_of r) own f.listed
 
   part_pairs : pairs part ≡ committed r.entry own
-  part_pairs = let e : 2 * count_of r - 0 ≡ 2 * count_of r = omega arith in ap (λ (k : ℕ). pairs (take k own)) e ∙ pairs_take (count_of r) own
+  part_pairs = pairs_take (count_of r) own
 
   pub part_mappable : (ss fs : List ℕ) → length ss ≡ 60 → length fs ≡ 60 → Mappable part r.entry.data_size ss fs
   part_mappable ss fs s t =
@@ -39,11 +39,11 @@ module _ (r : model.Record) (own : List ℕ) (f : Fit r own) where
       (rw e f.size)
 
   -- copied to the front of a row
-  pub row_extents : (xs₀ xs : List ℕ) → length xs₀ ≡ 120 → xs ≡ written (take (length xs₀) part) xs₀ → take (count_of r) (pairs xs) ≡ committed r.entry own
+  pub row_extents : (xs₀ xs : List ℕ) → length xs₀ ≡ 120 → xs ≡ written part xs₀ → take (count_of r) (pairs xs) ≡ committed r.entry own
   row_extents xs₀ xs h e =
       let l = part_length in
-      let w : xs ≡ written part xs₀ = e ∙ ap (λ (t : List ℕ). written t xs₀) (take_all (length xs₀) part (omega (arith, f.few))) in
-      let p : pairs xs ≡ pairs part ++ pairs (drop (length part) xs₀) = ap pairs w ∙ pairs_append part (drop (length part) xs₀) (omega arith) in
+      let p : pairs xs ≡ pairs part ++ pairs (drop (length part) xs₀) =
+      ap pairs e ∙ pairs_append part (drop (length part) xs₀) (omega arith) in
       let k : length (pairs part) ≡ count_of r = length_pairs part ∙ omega arith in
       ap (take (count_of r)) p ∙ take_at (pairs part) _ (count_of r) k ∙ part_pairs
 
@@ -55,7 +55,6 @@ module _ (one : Record) (own : List ℕ) (f : Fit (record_of one) own) (row : �
         number = one.number;
         tag = one.tag;
         name = one.name;
-        name_len = one.name_len;
         kind = one.entry.kind;
         flags = one.entry.flags;
         log2_block = one.header.log2_block;
@@ -69,7 +68,7 @@ module _ (one : Record) (own : List ℕ) (f : Fit (record_of one) own) (row : �
         map = m;
       }
 
-  pub rowed : (xs₀ xs ss fs : List ℕ) (m : RegionMap) → length xs₀ ≡ 120 → xs ≡ written (take (length xs₀) (part (record_of one) own f)) xs₀
+  pub rowed : (xs₀ xs ss fs : List ℕ) (m : RegionMap) → length xs₀ ≡ 120 → xs ≡ written (part (record_of one) own f) xs₀
       → RowMap (pairs (part (record_of one) own f)) one.entry.data_size ss fs m → Rowed (record_of one) own row (pairs xs) ss fs (made m)
   rowed xs₀ xs ss fs m h e q =
       let x = row_extents (record_of one) own f xs₀ xs h e in

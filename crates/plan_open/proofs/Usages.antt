@@ -1,5 +1,5 @@
 -- The accounts of the records: their rows are the model's, and each tag's totals are.
-use Prim.Native.Nat.{ℕ, ◌-◌, ◌+◌, ◌*◌, ◌≤◌}
+use Prim.Native.Nat.{ℕ, ◌+◌, ◌*◌, ◌≤◌}
 use mathlib.Core.Bool.{false}
 use mathlib.Core.List.{List, [], ◌∷◌, ◌++◌, map, map-append, map-map, reverse, reverse-cons}
 use mathlib.Core.Path.{◌≡◌, refl, ap, sym, ◌∙◌}
@@ -7,7 +7,9 @@ use native.Mathlib.Omega.{arith}
 use lib.ListN.{length, take, drop, length-map, length-reverse}
 use lib.Seq.{take_at}
 use borrow.Author.Tests.{eq-eqb, ne_eqb}
-use Rattle.accounting.specs.Entries.{Usage, usage, usages, add_all, of_tag, no_tags, differ, Counts}
+use Rattle.std.specs.Prelude.{Ok}
+use Rattle.accounting.specs.declared.entries.Usage.{Usage}
+use Rattle.accounting.specs.Entries.{usage, usages, add_all, of_tag, no_tags, differ, Counts}
 use Rattle.accounting.specs.Table.{Table, table_of, accounts_of, on_row}
 use Rattle.accounting.specs.declared.Posted.{Posted}
 use Rattle.footprint.specs.declared.Limits.{Limits}
@@ -41,31 +43,34 @@ unfolding usages
 usages_map lim [] = refl
 usages_map lim (m ∷ ms) = ap (λ (l : List Usage). usage_of lim m ∷ l) (usages_map lim ms)
 
-module _ {lim : Limits} {ms : List model.Record} {t₀ t l₀ l p₀ p : List ℕ} (u : UsageIn lim ms t₀ t l₀ l p₀ p) (n : ℕ) (e : length ms ≡ n) (few : n ≤ 64) where
-  -- the front of a list, as the code takes it
-  front : (f : model.Record → ℕ) (s₀ s : List ℕ) → s ≡ written (map f (reverse ms)) s₀ → take (n - 0) s ≡ map f (reverse ms)
-  front f s₀ s q =
-      let a = length-map (reverse ms) f in
-      let b = length-reverse ms in
-      ap (take (n - 0)) q ∙ take_at (map f (reverse ms)) _ (n - 0) (omega arith)
+-- the front of a list, as the code takes it
+front : (ms : List model.Record) (n : ℕ) → length ms ≡ n → (f : model.Record → ℕ) (s₀ s : List ℕ) → s ≡ written (map f (reverse ms)) s₀
+    → take n s ≡ map f (reverse ms)
+front ms n e f s₀ s q =
+    let a = length-map (reverse ms) f in
+    let b = length-reverse ms in
+    ap (take n) q ∙ take_at (map f (reverse ms)) _ n (omega arith)
 
+module _ {lim : Limits} {ms : List model.Record} {t₀ t l₀ l p₀ p : List ℕ} (u : UsageIn lim (reverse ms) t₀ t l₀ l p₀ p) (n : ℕ)
+    (e : length ms ≡ n) (few : n ≤ 64) where
   pub posted : (r : Posted)
-      → Counts (differ (take (n - 0) t) (take (n - 0) l) (take (n - 0) p)) (usages (take (n - 0) t) (take (n - 0) l) (take (n - 0) p)) r
+      → Counts (differ (take n t) (take n l) (take n p)) (usages (take n t) (take n l) (take n p)) r
       → Accounted lim ms r.accounts
   unfolding differ
   posted r c =
-      let a = front tag_of t₀ t u.all_tags in
-      let b = front size_of l₀ l u.all_logical in
-      let d = front (len_of lim) p₀ p u.all_physical in
+      let a = front ms n e tag_of t₀ t u.all_tags in
+      let b = front ms n e size_of l₀ l u.all_logical in
+      let d = front ms n e (len_of lim) p₀ p u.all_physical in
       let k = length-map (reverse ms) tag_of in
       let j = length-map (reverse ms) size_of in
       let i = length-map (reverse ms) (len_of lim) in
       let m = length-map (reverse ms) (usage_of lim) in
       let v = length-reverse ms in
       let us : List Usage = map (usage_of lim) (reverse ms) in
-      let w : usages (take (n - 0) t) (take (n - 0) l) (take (n - 0) p) ≡ us = rw (a, b, d) (usages_map lim (reverse ms)) in
-      let s : differ (take (n - 0) t) (take (n - 0) l) (take (n - 0) p) ≡ false = rw (a, b, d) (simp (eq-eqb _ _ (k ∙ sym j), eq-eqb _ _ (k ∙ sym i))) in
-      let h : r ≡ record { refusal = 0; accounts = accounts_of (add_all us no_tags) } = c.answer ∙ simp (s, w) (few_usages us (omega arith)) in
+      let w : usages (take n t) (take n l) (take n p) ≡ us = rw (a, b, d) (usages_map lim (reverse ms)) in
+      let s : differ (take n t) (take n l) (take n p) ≡ false = rw (a, b, d) (simp (eq-eqb _ _ (k ∙ sym j), eq-eqb _ _ (k ∙ sym i))) in
+      let h : r ≡ record { answer = Ok tt; accounts = accounts_of (add_all us no_tags) } =
+      c.answer ∙ simp (s, w) (few_usages us (omega arith)) in
       record { table = ap (λ (q : Posted). table_of q.accounts) h ∙ table_accounts (add_all us no_tags); valid = c.valid }
 
 -- ---- rows: a map that keeps the key goes through `put_keyed` and `keyed`
@@ -85,7 +90,8 @@ add_first lim m ms =
     ∙ ap (λ (l : List Usage). add_all l no_tags) (map-append (usage_of lim) (reverse ms) (m ∷ []))
     ∙ add_append (map (usage_of lim) (reverse ms)) (usage_of lim m ∷ []) no_tags
 
-pub rows_are : (lim : Limits) (ms : List model.Record) → map cap_of (add_all (map (usage_of lim) (reverse ms)) no_tags).rows ≡ model.rows_for (map tag_of ms)
+pub rows_are : (lim : Limits) (ms : List model.Record) → map cap_of (add_all (map (usage_of lim) (reverse ms)) no_tags).rows
+    ≡ model.rows_for (map tag_of ms)
 unfolding model.rows_for on_row add_all
 rows_are lim [] = refl
 rows_are lim (m ∷ ms) =
@@ -93,7 +99,8 @@ rows_are lim (m ∷ ms) =
     let x : TagSpace = add_usage (size_of m) (len_of lim m) (accounting.row_of (tag_of m) t.rows) in
     ap (λ (q : Table). map cap_of q.rows) (add_first lim m ms)
     ∙ map_put cap_of accounting.tag_of model_world.tag_of (λ r. refl) x t.rows
-    ∙ ap (λ (q : TagRow). put_keyed model_world.tag_of q (map cap_of t.rows)) (map_keyed cap_of accounting.tag_of model_world.tag_of (λ r. refl) (blank (tag_of m)) (tag_of m) t.rows)
+    ∙ ap (λ (q : TagRow). put_keyed model_world.tag_of q (map cap_of t.rows))
+    (map_keyed cap_of accounting.tag_of model_world.tag_of (λ r. refl) (blank (tag_of m)) (tag_of m) t.rows)
     ∙ ap (λ (l : List TagRow). model_world.with_tag (tag_of m) l) (rows_are lim ms)
 
 -- ---- totals
@@ -117,7 +124,8 @@ abbrev of_region : Limits → model_region.Region → Usage
 of_region lim r = usage r.tag r.published (footprint_len lim r)
 
 -- an accepted record counts what its region holds
-own_usage : (lim : Limits) (m : model.Record) (xs : List ℕ) → model.record_refusal lim m xs ≡ 0 → footprint_len lim (model.region_from m xs) ≤ top
+own_usage : (lim : Limits) (m : model.Record) (xs : List ℕ) → model.record_refusal lim m xs ≡ 0
+    → footprint_len lim (model.region_from m xs) ≤ top
     → usage_of lim m ≡ of_region lim (model.region_from m xs)
 own_usage lim m xs z h =
     let c = (accepted_regular lim m.number m.entry m.header xs (2 * (count_of m + 2)) z).capacity in
@@ -125,7 +133,8 @@ own_usage lim m xs z h =
     let e : len_of lim m ≡ footprint_len lim (model.region_from m xs) = omega arith in
     ap (usage (tag_of m) (size_of m)) e
 
-all_usages : (lim : Limits) (ms : List model.Record) (l : List ℕ) → All (λ (n : ℕ). n ≡ 0) (model.each_record (model.record_refusal lim) ms l)
+all_usages : (lim : Limits) (ms : List model.Record) (l : List ℕ)
+    → All (λ (n : ℕ). n ≡ 0) (model.each_record (model.record_refusal lim) ms l)
     → sum (map (footprint_len lim) (model.each_record model.region_from ms l)) ≤ top
     → map (usage_of lim) ms ≡ map (of_region lim) (model.each_record model.region_from ms l)
 unfolding model.each_record sum
@@ -133,13 +142,15 @@ all_usages lim [] l a h = refl
 all_usages lim (m ∷ ms) l a h =
     rw (own_usage lim m (take (2 * listed_by m) l) a.0 (omega arith), all_usages lim ms (drop (2 * listed_by m) l) a.1 (omega arith))
 
-module _ (lim : Limits) (ms : List model.Record) (l : List ℕ) (a : All (λ (n : ℕ). n ≡ 0) (model.each_record (model.record_refusal lim) ms l))
+module _ (lim : Limits) (ms : List model.Record) (l : List ℕ)
+    (a : All (λ (n : ℕ). n ≡ 0) (model.each_record (model.record_refusal lim) ms l))
     (h : sum (map (footprint_len lim) (model.each_record model.region_from ms l)) ≤ top) (tag : ℕ) where
   abbrev regions : List model_region.Region
   regions = model.each_record model.region_from ms l
 
   -- a total over the usages is one over the regions
-  total_is : (f : Usage → ℕ) → sum (map f (of_tag tag (map (usage_of lim) (reverse ms)))) ≡ sum (map (λ (r : model_region.Region). f (of_region lim r)) (model_world.of_tag tag regions))
+  total_is : (f : Usage → ℕ) → sum (map f (of_tag tag (map (usage_of lim) (reverse ms))))
+      ≡ sum (map (λ (r : model_region.Region). f (of_region lim r)) (model_world.of_tag tag regions))
   total_is f =
       let g : Usage → ℕ = λ u. if_tag u.tag tag (f u) in
       usage_sum f tag (map (usage_of lim) (reverse ms))
@@ -154,7 +165,13 @@ module _ (lim : Limits) (ms : List model.Record) (l : List ℕ) (a : All (λ (n 
   pub row_is : (logical physical : ℕ) → logical ≡ sum (map (λ (r : model_region.Region). r.published) (model_world.of_tag tag regions))
       → physical ≡ sum (map (footprint_len lim) (model_world.of_tag tag regions)) → logical ≤ top → physical ≤ top
       → accounting.row_of tag (add_all (map (usage_of lim) (reverse ms)) no_tags).rows
-      ≡ record { tag = tag; logical = logical; physical = physical; reserved = 0; cap = (model_world.row_of tag (model.rows_for (map tag_of ms))).cap }
+      ≡ record {
+        tag = tag;
+        logical = logical;
+        physical = physical;
+        reserved = 0;
+        cap = (model_world.row_of tag (model.rows_for (map tag_of ms))).cap;
+      }
   row_is logical physical p q u v =
       let us : List Usage = map (usage_of lim) (reverse ms) in
       let rows : List TagSpace = (add_all us no_tags).rows in
@@ -162,7 +179,8 @@ module _ (lim : Limits) (ms : List model.Record) (l : List ℕ) (a : All (λ (n 
       let y = total_is (λ (w : Usage). w.physical) in
       let r = usage_row tag us in
       let c : model_world.row_of tag (model.rows_for (map tag_of ms)) ≡ cap_of (accounting.row_of tag rows) =
-      ap (model_world.row_of tag) (sym (rows_are lim ms)) ∙ sym (map_keyed cap_of accounting.tag_of model_world.tag_of (λ t. refl) (blank tag) tag rows) in
+      ap (model_world.row_of tag) (sym (rows_are lim ms))
+      ∙ sym (map_keyed cap_of accounting.tag_of model_world.tag_of (λ t. refl) (blank tag) tag rows) in
       let a : stop (0 + sum (map (λ (w : Usage). w.logical) (of_tag tag us))) ≡ logical = omega arith in
       let b : stop (0 + sum (map (λ (w : Usage). w.physical) (of_tag tag us))) ≡ physical = omega arith in
       rw (c, r, a, b)

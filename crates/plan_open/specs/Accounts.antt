@@ -1,6 +1,7 @@
 -- The accounts of the records; open promises nothing by these.
 use Rattle.std.specs.Prelude.{ℕ, ◌+◌, ◌≤◌, List, map, reverse, ◌≡◌}
-use Rattle.accounting.specs.Entries.{Usage, usage, add_all, no_tags}
+use Rattle.accounting.specs.Entries.{usage, add_all, no_tags}
+use Rattle.accounting.specs.declared.entries.Usage.{Usage}
 use Rattle.accounting.specs.Table.{Valid, table_of}
 use Rattle.accounting.specs.declared.Accounting.{Accounting}
 use Rattle.footprint.specs.Footprint.{block_of}
@@ -25,11 +26,11 @@ len_of lim r = len_with (stop (block_of lim + block_of lim)) r
 abbrev pub usage_of : Limits → Record → Usage
 usage_of lim r = usage (tag_of r) (size_of r) (len_of lim r)
 
--- Their usages in three lists, the last record's first.
+-- Their usages in the front of three lists.
 pub record UsageIn (lim : Limits) (rs : List Record) (tags₀ tags logical₀ logical physical₀ physical : List ℕ) : Type 0 where
-  pub all_tags : tags ≡ written (map tag_of (reverse rs)) tags₀
-  pub all_logical : logical ≡ written (map size_of (reverse rs)) logical₀
-  pub all_physical : physical ≡ written (map (len_of lim) (reverse rs)) physical₀
+  pub all_tags : tags ≡ written (map tag_of rs) tags₀
+  pub all_logical : logical ≡ written (map size_of rs) logical₀
+  pub all_physical : physical ≡ written (map (len_of lim) rs) physical₀
 
 -- The lists have places for n.
 pub record Room (n tags logical physical : ℕ) : Type 0 where

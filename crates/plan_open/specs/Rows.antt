@@ -5,26 +5,13 @@ use Rattle.numbers.specs.Lists.{All}
 use Rattle.numbers.specs.Pairs.{pairs}
 use Rattle.numbers.specs.Range.{Range, total}
 use Rattle.numbers.specs.Sums.{top}
-use Rattle.plan_record.specs.Record.{name_of}
+use Rattle.plan_record.specs.Record.{text_of}
 use Rattle.plan_record.specs.declared.Region.{Region}
-use Rattle.regionmap.specs.Map.{Valid, placement_of, from_refusal, with_room, Lays}
+use Rattle.regionmap.specs.Map.{Valid, placement_of, from_refusal, Lays}
 use Rattle.regionmap.specs.declared.RegionMap.{RegionMap}
 use Rattle.model.proofs.Opening.{count_of}
 use Rattle.model.specs.Open as model
 use Rattle.model.specs.Region as model_region
-
--- A map whose runs stand in a row, with no more room than that.
-pub record Roomy (m : RegionMap) (ss fs : List ℕ) : Type 0 where
-  pub valid : Valid m ss fs
-  pub room : m.room ≤ 60
-  pub starts : length ss ≡ 60
-  pub files : length fs ≡ 60
-
--- The map with that room.
-pub record RoomyMap (m : RegionMap) (ss fs : List ℕ) (r : RegionMap) : Type 0 where
-  pub valid : Valid r ss fs
-  pub same : placement_of r ss fs ≡ with_room (placement_of m ss fs) 60
-  pub room : r.room ≡ 60
 
 -- Extents that have a map in a row.
 pub record Mappable (xs : List ℕ) (len : ℕ) (ss fs : List ℕ) : Type 0 where
@@ -54,7 +41,7 @@ region_with xs g =
     record {
       number = g.number;
       tag = g.tag;
-      name = name_of g.name g.name_len;
+      name = text_of g.name;
       kind = g.kind;
       flags = g.flags;
       log2 = g.log2_block;

@@ -7,95 +7,68 @@ ghost use Rattle.plan_settled.specs.Settled.{seq_of};
 
 use crate::accounts::accounts_of;
 use crate::row::fill_row;
-use footprint::Limits;
+use plan_checks::Opening;
 use plan_record::{Plan, Record, Region};
+use std::array;
 
-// A plan of no regions, with a row for each that may come.
-fn rows() -> Plan
-    ensures { Rows result.regions }
+// No regions, and a row for each that may come.
+fn rows() -> [Region; 64]
+    ensures { Rows result }
 {
-    let mut plan = Plan::blank();
-    let mut i = 0;
-    while i < 64 {
-        plan.regions[i] = Region::blank(i);
-        i += 1;
-    }
-    plan
+    array::from_fn(Region::blank)
 }
 
 // The records' regions, each in its row.
 fn fill(
-    records: [Record; 64],
-    count: usize,
-    listed: &[u64],
+    opening: Opening<'_>,
     extents: &mut [u64],
     starts: &mut [u64],
     files: &mut [u64],
-) -> Plan
-    requires { (count ≤ 64) × Fitting (records_of records count) listed.now (length extents.old) (length starts.old) (length files.old) }
-    ensures { Filled (records_of records count) listed.now extents.old extents.new starts.old starts.new files.old files.new result.regions }
+) -> [Region; 64]
+    requires { (length opening.records.now ≤ 64) × Fitting (records_of opening.records.now) opening.listed.now (length extents.old) (length starts.old) (length files.old) }
+    ensures { Filled (records_of opening.entry.records.now) opening.entry.listed.now extents.old extents.new starts.old starts.new files.old files.new result }
 {
-    let mut plan = rows();
-    let mut at = 0;
-    let mut i = 0;
-    while i < count {
-        let one = records[i];
-        let header = one.header;
-        let next = at + 2 * (header.extent_count as usize);
-        let a = 120 * i;
-        let b = a + 120;
-        let c = 60 * i;
-        let d = c + 60;
+    let mut regions = rows();
+    for (i, (one, own)) in opening.each_record().enumerate() {
         let region = fill_row(
-            one,
+            *one,
             i,
-            &listed[at..next],
-            &mut extents[a..b],
-            &mut starts[c..d],
-            &mut files[c..d],
+            own,
+            &mut extents[120 * i..120 * i + 120],
+            &mut starts[60 * i..60 * i + 60],
+            &mut files[60 * i..60 * i + 60],
         );
-        plan.regions[i] = region;
-        at = next;
-        i += 1;
+        regions[i] = region;
     }
-    plan
+    regions
 }
 
 // The highest sequence number, 0 if there is none.
-fn highest_seq(records: [Record; 64], count: usize) -> u64
-    requires { count ≤ 64 }
-    ensures { result ≡ highest (map seq_of (records_of records count)) }
+fn highest_seq(records: &[Record]) -> u64
+    ensures { result ≡ highest (map seq_of (records_of records.now)) }
 {
-    let mut last = 0;
-    let mut i = 0;
-    while i < count {
-        let one = records[i];
-        let entry = one.entry;
-        i += 1;
-        if entry.footprint_seq > last {
-            last = entry.footprint_seq;
-        }
-    }
-    last
+    records
+        .iter()
+        .fold(0, |last: u64, one| last.max(one.entry.footprint_seq))
 }
 
 // The plan.
 pub(crate) fn build(
-    limits: Limits,
-    records: [Record; 64],
-    count: usize,
-    listed: &[u64],
+    opening: Opening<'_>,
     extents: &mut [u64],
     starts: &mut [u64],
     files: &mut [u64],
 ) -> Plan
-    requires { Accepted limits records count listed.now extents.old starts.old files.old }
-    ensures { Built limits records count listed.now extents.old extents.new starts.old starts.new files.old files.new result }
+    requires { Accepted opening.limits opening.records.now opening.listed.now extents.old starts.old files.old }
+    ensures { Built opening.entry.limits opening.entry.records.now opening.entry.listed.now extents.old extents.new starts.old starts.new files.old files.new result }
 {
-    let mut plan = fill(records, count, listed, extents, starts, files);
-    plan.limits = limits;
-    plan.last = highest_seq(records, count);
-    plan.count = count;
-    plan.accounts = accounts_of(limits, records, count);
-    plan
+    let limits = opening.limits;
+    let records = opening.records;
+    Plan {
+        limits,
+        last: highest_seq(records),
+        count: records.len(),
+        regions: fill(opening, extents, starts, files),
+        accounts: accounts_of(limits, records),
+    }
 }

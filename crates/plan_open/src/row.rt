@@ -1,40 +1,21 @@
 // One region in its row of the lent lists.
 ghost use Rattle.std.specs.Prelude.{◌≡◌, length};
 ghost use Rattle.numbers.specs.Pairs.{pairs};
-ghost use Rattle.plan_open.specs.Rows.{Roomy, RoomyMap, Mappable, RowMap, Fit, Rowed};
+ghost use Rattle.plan_open.specs.Rows.{Mappable, RowMap, Fit, Rowed};
 ghost use Rattle.plan_record.specs.Record.{record_of};
 
 use plan_record::{Record, Region};
-use plan_settled::copy_numbers;
-use regionmap::{Mapped, RegionMap};
+use regionmap::RegionMap;
 
-// The map with room for 60 runs after the first.
-fn roomy(map: RegionMap, starts: &[u64], files: &[u64]) -> RegionMap
-    requires { Roomy map starts.now files.now }
-    ensures { RoomyMap map starts.now files.now result }
-{
-    let made = map.with_room(60, starts, files);
-    match made {
-        Mapped::Map(m) => m,
-        Mapped::Refused(_) => map,
-    }
-}
-
-// The map of extents, with its runs in a row.
+// The map of extents, with its runs in a row: it has room for 60 after the first. Neither call refuses
+// what this one takes.
 fn map_row(extents: &[u64], len: u64, starts: &mut [u64], files: &mut [u64]) -> RegionMap
     requires { Mappable extents.now len starts.old files.old }
     ensures { RowMap (pairs extents.now) len starts.new files.new result }
 {
-    let made = RegionMap::from_extents(extents, len, starts, files);
-    match made {
-        Mapped::Map(m) => roomy(m, starts, files),
-        Mapped::Refused(_) => RegionMap {
-            first: 0,
-            len: 0,
-            capacity: 0,
-            count: 0,
-            room: 0,
-        },
+    match RegionMap::from_extents(extents, len, starts, files) {
+        Ok(map) => map.with_room(60, starts, files).unwrap_or(map),
+        Err(_) => Region::blank(0).map,
     }
 }
 
@@ -51,20 +32,16 @@ pub(crate) fn fill_row(
     ensures { Rowed (record_of one) own.now row (pairs extents.new) starts.new files.new result }
 {
     let entry = one.entry;
-    let header = one.header;
-    let n = 2 * (entry.extent_count as usize);
-    copy_numbers(&own[0..n], extents);
-    let map = map_row(&own[0..n], entry.data_size, starts, files);
-    let name = one.name;
-    let kind = entry.kind;
+    let committed = &own[..2 * entry.extent_count as usize];
+    extents[..committed.len()].copy_from_slice(committed);
+    let map = map_row(committed, entry.data_size, starts, files);
     Region {
         number: one.number,
         tag: one.tag,
-        name,
-        name_len: one.name_len,
-        kind,
+        name: one.name,
+        kind: entry.kind,
         flags: entry.flags,
-        log2_block: header.log2_block,
+        log2_block: one.header.log2_block,
         header_a: entry.header_a,
         header_b: entry.header_b,
         span_start: entry.span_start,

@@ -1,8 +1,10 @@
 -- A region handed out as open's own record.
+use Rattle.numbers.specs.declared.refusal.Refusal.{Refusal}
+use Rattle.numbers.specs.declared.refusal.Refusal.TheVariants.{Lists}
 use Prim.Native.Nat.{ℕ, ◌+◌, ◌*◌, ◌≤◌, ◌<◌, min}
 use mathlib.Core.Bool.{true, ◌||◌, or-true}
 use mathlib.Core.List.{List, ◌++◌, append_assoc}
-use mathlib.Core.Option.{none}
+use Rattle.std.specs.Prelude.{Ok, Err, Result}
 use mathlib.Core.Path.{◌≡◌, refl, ap, sym, subst, ◌∙◌}
 use native.Mathlib.Nat.{zero-add}
 use native.Mathlib.Omega.{arith}
@@ -21,9 +23,7 @@ use Rattle.plan_record.specs.Record.{record_of, blank_record, handed_from}
 use Rattle.plan_record.specs.declared.Plan.{Plan}
 use Rattle.plan_record.specs.declared.Record.{Record}
 use Rattle.plan_record.specs.declared.Region.{Region}
-use Rattle.plan_record.specs.declared.Reply.{Reply}
-use Rattle.plan_record.specs.declared.Reply.TheVariants.{Done, Refused}
-use Rattle.numbers.proofs.Answers.{answer_value, one_fails}
+use Rattle.numbers.proofs.Answers.{no_error}
 use Rattle.numbers.proofs.Lists.{past_none}
 use Rattle.numbers.proofs.Pairs.{flat_append, length_pairs, length_flat, flat_pairs, pairs_flat, pairs_take, pairs_drop, same_pairs}
 use Rattle.plan_record.proofs.Fitting.{extents_are}
@@ -69,31 +69,28 @@ laid_written s t rs l e h =
 
 -- ---- the returns
 
-done_refused : (n : ℕ) → Done ≡ Refused n → ⊥
-done_refused n e = let z : ◌≡◌ {A = ℕ} 0 1 = cc in omega arith
-
 filed_is : (xs : List ℕ) (g : Region) (n : ℕ) → n ≡ length (region_of xs g).extents → g.map.capacity ≡ total (region_of xs g).extents → record_of (record_for g n) ≡ handed_from (region_of xs g)
 filed_is xs g n a b = rw (a, b)
 
 module _ (p : Plan) (i : ℕ) (xs out₀ : List ℕ) where
-  abbrev Gives : List ℕ → Reply → Record → Type 0
-  Gives out r f = Hands p i xs out₀ out (record { reply = r; filed = f })
+  abbrev Gives : List ℕ → Result Record Refusal → Type 0
+  Gives out r = Hands p i xs out₀ out r
 
   abbrev here : region.Region
   here = get_or (world_of p xs).regions i region.no_region
 
-  refused_hands : ((ss fs : List ℕ) → Valid p xs ss fs → (ltb (length (pairs xs)) places || ltb (length (pairs out₀)) (length here.extents)) ≡ true) → Gives out₀ (Refused 1) blank_record
+  refused_hands : ((ss fs : List ℕ) → Valid p xs ss fs → (ltb (length (pairs xs)) places || ltb (length (pairs out₀)) (length here.extents)) ≡ true) → Gives out₀ (Err Lists)
   unfolding hand_refusal refuse
   refused_hands f =
       record {
-        answer = λ ss fs v. sym (one_fails 1 _ none (omega arith) (f ss fs v));
-        record_is = λ ss fs v e. absurd (done_refused 1 (sym e));
+        answer = λ ss fs v. sym (simp (f ss fs v));
+        record_is = λ ss fs f v e. absurd (no_error f Lists (sym e));
         slots = λ ss fs v. simp (f ss fs v);
-        refused = λ n e. (refl, refl);
+        refused = λ n e. refl;
         short = λ h. refl;
       }
 
-  pub hands_short : length (pairs xs) < places → Gives out₀ (Refused 1) blank_record
+  pub hands_short : length (pairs xs) < places → Gives out₀ (Err Lists)
   hands_short h = refused_hands (λ ss fs v. absurd (omega (arith, v.extents)))
 
   module _ (long : places ≤ length (pairs xs)) where
@@ -103,13 +100,13 @@ module _ (p : Plan) (i : ℕ) (xs out₀ : List ℕ) where
 
     given : (out : List ℕ) (f : Record)
         → ((ss fs : List ℕ) → Valid p xs ss fs → (length here.extents ≤ length (pairs out₀)) × (record_of f ≡ handed_from here) × (out ≡ flat here.extents ++ drop (length (flat here.extents)) out₀))
-        → Gives out Done f
+        → Gives out (Ok f)
     given out f g =
         record {
-          answer = λ ss fs v. sym (answer_value _ none (passes _ refl (g ss fs v).0));
-          record_is = λ ss fs v e. (g ss fs v).1;
+          answer = λ ss fs v. sym (passes _ refl (g ss fs v).0);
+          record_is = λ ss fs r v e. let q : f ≡ r = cc in ap record_of (sym q) ∙ (g ss fs v).1;
           slots = λ ss fs v. let z = passes _ refl (g ss fs v).0 in rw z (g ss fs v).2;
-          refused = λ n e. absurd (done_refused n e);
+          refused = λ n e. absurd (no_error f n e);
           short = λ h. absurd (omega arith);
         }
 
@@ -118,7 +115,7 @@ module _ (p : Plan) (i : ℕ) (xs out₀ : List ℕ) where
       unfolding world_of
       past_is h = past_none (world_of p xs).regions i region.no_region (rw (length-map (regions_of p) (region_of xs)) (omega arith))
 
-      pub hands_past : m ≤ i → Gives out₀ Done blank_record
+      pub hands_past : m ≤ i → Gives out₀ (Ok blank_record)
       unfolding flat sum
       hands_past h = let e = past_is h in given out₀ blank_record (λ ss fs v. rw e (omega arith, refl, refl))
 
@@ -137,13 +134,13 @@ module _ (p : Plan) (i : ℕ) (xs out₀ : List ℕ) where
         count_here : (n : ℕ) → n ≡ min (region_at p i).extent_count 60 → (ss fs : List ℕ) → Valid p xs ss fs → length here.extents ≡ n
         count_here n e ss fs v = ap length (sym (extents_here ss fs v)) ∙ extents_length xs (region_at p i) long ∙ sym e
 
-        pub hands_few : (n : ℕ) → n ≡ min (region_at p i).extent_count 60 → length (pairs out₀) < n → Gives out₀ (Refused 1) blank_record
+        pub hands_few : (n : ℕ) → n ≡ min (region_at p i).extent_count 60 → length (pairs out₀) < n → Gives out₀ (Err Lists)
         hands_few n e h =
             refused_hands
             (λ ss fs v. let k = count_here n e ss fs v in let q : length (pairs out₀) < length here.extents = omega arith in simp (lt-ltb _ _ q, or-true))
 
         pub hands_done : (n : ℕ) → n ≡ min (region_at p i).extent_count 60 → n ≤ length (pairs out₀) → (out : List ℕ) → length out ≡ length out₀
-            → Lays out₀ out 0 (region_extents xs (region_at p i)) → Gives out Done (record_for (region_at p i) n)
+            → Lays out₀ out 0 (region_extents xs (region_at p i)) → Gives out (Ok (record_for (region_at p i) n))
         hands_done n e h out w b =
             given out (record_for (region_at p i) n)
             (λ ss fs v.

@@ -1,4 +1,6 @@
 -- First fit among the gaps that a plan's footprints leave is the model's.
+use Rattle.numbers.specs.declared.refusal.Refusal.{Refusal}
+use Rattle.std.specs.Prelude.{Ok, Err, Result, Option}
 use Prim.Native.Nat.{ℕ, ◌+◌, ◌-◌, ◌*◌, ◌≤◌, ◌<◌, min}
 use mathlib.Core.Bool.{true, false}
 use mathlib.Core.List.{List, [], ◌∷◌, map}
@@ -7,15 +9,13 @@ use native.Mathlib.Omega.{arith}
 use lib.ListN.{length, take, drop, length-take}
 use lib.Seq.{sets-eq, take_at}
 use borrow.Author.Tests.{le-ltb}
-use Rattle.freemap.specs.declared.Complement.{Complement}
-use Rattle.freemap.specs.declared.Fit.{Fit}
 use Rattle.freemap.specs.declared.FreeMap.{FreeMap}
 use Rattle.model.specs.Region.{footprints}
 use Rattle.model.specs.World.{held_ranges}
 use Rattle.numbers.specs.Lists.{All}
 use Rattle.numbers.specs.Pairs.{pairs}
 use Rattle.numbers.specs.Powers.{is_power_of_two}
-use Rattle.numbers.specs.Refusals.{accepted}
+use Rattle.numbers.specs.Refusals.{accepted, told, refusal_number}
 use Rattle.plan_record.specs.Inner.{block_in, region_extents, laid, laid_each, laid_all, Lays}
 use Rattle.plan_record.specs.Plan.{region_of, regions_of, world_of, Mapped, Valid}
 use Rattle.plan_record.specs.Promises.{Fits}
@@ -30,7 +30,6 @@ use Rattle.plan_record.proofs.Holding.{block_is}
 use Rattle.plan_record.proofs.Regions.{all_counted}
 use Rattle.freemap.specs.Fit as freemap
 use Rattle.freemap.specs.Gaps as gaps
-use Rattle.freemap.specs.declared.Complement.TheVariants as complement
 
 -- ---- what is laid is what is held
 
@@ -84,16 +83,16 @@ module _ (p : Plan) (xs s t : List ℕ) (k : ℕ) (l : Lays s t 0 (laid_all p xs
       len = p.limits.file_len
 
       -- `complement` is not refused
-      pub lent_taken : (r : Complement) (m : ℕ) (f : Fit) → gaps.Complemented te len (take (2 * k - 0) t) rs gs₀ gs r → r ≡ complement.Refused m → Fits p n xs f
+      pub lent_taken : (r : Result FreeMap Refusal) (m : Refusal) (f : Result (Option ℕ) Refusal) → gaps.Complemented te len (take (2 * k - 0) t) rs gs₀ gs r → r ≡ Err m → Fits p n xs f
       lent_taken r m f d e' =
-          let c = subst (λ (r : Complement). gaps.Complemented te len (take (2 * k - 0) t) rs gs₀ gs r) e' d in
-          absurd (not_both _ m (sym (one_passes 1 _ _ lent_fine) ∙ sym c.answer))
+          let c = subst (λ (r : Result FreeMap Refusal). gaps.Complemented te len (take (2 * k - 0) t) rs gs₀ gs r) e' d in
+          absurd (not_both _ (refusal_number m) (sym (one_passes 1 _ _ lent_fine) ∙ sym c.answer))
 
-      pub fits_lowest : (r : Complement) (m : FreeMap) (f : Fit) (b : ℕ) → gaps.Complemented te len (take (2 * k - 0) t) rs gs₀ gs r → r ≡ complement.Map m → b ≡ block_in p
-          → freemap.place_of f ≡ freemap.fit_of m gs n b 0 → Fits p n xs f
+      pub fits_lowest : (r : Result FreeMap Refusal) (m : FreeMap) (f : Result (Option ℕ) Refusal) (b : ℕ) → gaps.Complemented te len (take (2 * k - 0) t) rs gs₀ gs r → r ≡ Ok m → b ≡ block_in p
+          → told f ≡ freemap.fit_of m gs n b 0 → Fits p n xs f
       unfolding world_of
       fits_lowest r m f b d e' q w =
-          let c = subst (λ (r : Complement). gaps.Complemented te len (take (2 * k - 0) t) rs gs₀ gs r) e' d in
+          let c = subst (λ (r : Result FreeMap Refusal). gaps.Complemented te len (take (2 * k - 0) t) rs gs₀ gs r) e' d in
           record {
             told = λ ss fs v pos.
                 let r = gaps_read te len (take (2 * k - 0) t) rs gs₀ gs m c in

@@ -1,4 +1,5 @@
 -- A region of a valid plan by its place: the region of the model's world, its map and its row.
+use Rattle.std.specs.Prelude.{Some, None}
 use Prim.Native.Nat.{ℕ, ◌≤◌, ◌<◌}
 use mathlib.Core.Bool.{true, false}
 use mathlib.Core.List.{List, map, map-map}
@@ -11,12 +12,12 @@ use borrow.Author.Tests.{le-ltb, lt-ltb}
 use Rattle.model.specs.Calls.{known, region_in}
 use Rattle.model.specs.World.{tag_of}
 use Rattle.numbers.specs.Keyed.{HasKey}
-use Rattle.plan_record.specs.Plan.{region_of, regions_of, world_of, Mapped, Valid, number_of, row_of, spot_of, place_of, past_region}
+use Rattle.plan_record.specs.Plan.{region_of, regions_of, world_of, Mapped, Valid, number_of, row_of, spot_of, place_of, past_region, place_in}
 use Rattle.plan_record.specs.declared.Plan.{Plan}
 use Rattle.plan_record.specs.declared.Region.{Region}
 use Rattle.model.proofs.Sound.{Regular}
 use Rattle.numbers.proofs.Lists.{all_at, mapped_at, distinct_at}
-use Rattle.plan_record.proofs.Places.{known_place, region_place}
+use Rattle.plan_record.proofs.Places.{known_place, region_place, found_is, none_is}
 use Rattle.model.specs.Region as model
 
 -- the numbers of the regions, in the record and in the world
@@ -33,12 +34,11 @@ module _ (p : Plan) (xs : List ℕ) where
       known_place id (map (region_of xs) (regions_of p))
       ∙ rw (numbers_same xs (regions_of p), length-map (regions_of p) (region_of xs))
 
-  module _ (id i m : ℕ) (e : i ≡ spot_of p id) (a : m ≡ length (regions_of p)) where
-    pub known_here : i < m → known (world_of p xs) id ≡ true
-    known_here h = known_is id ∙ lt-ltb (spot_of p id) (length (regions_of p)) (omega arith)
+  pub known_here : (id i : ℕ) → place_in p id ≡ Some i → known (world_of p xs) id ≡ true
+  known_here id i e = known_is id ∙ lt-ltb (spot_of p id) (length (regions_of p)) (omega (arith, (found_is p id i e).0, (found_is p id i e).1))
 
-    pub known_not : m ≤ i → known (world_of p xs) id ≡ false
-    known_not h = known_is id ∙ le-ltb (spot_of p id) (length (regions_of p)) (omega arith)
+  pub known_not : (id : ℕ) → place_in p id ≡ None → known (world_of p xs) id ≡ false
+  known_not id e = known_is id ∙ le-ltb (spot_of p id) (length (regions_of p)) (omega (arith, none_is p id e))
 
   module _ (i : ℕ) (h : i < length (regions_of p)) where
     counted_below : i < p.count

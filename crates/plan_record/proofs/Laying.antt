@@ -16,6 +16,7 @@ use Rattle.plan_record.specs.declared.Region.{Region}
 use Rattle.sort.specs.Places.{range_of, Put}
 use Rattle.sort.specs.declared.pair.Pair.{Pair}
 use Rattle.numbers.proofs.Pairs.{same_pairs}
+use Rattle.plan_record.proofs.Counted.{counted_are}
 use Rattle.plan_record.proofs.Rows.{row_length}
 
 -- ---- stores one behind the other
@@ -143,18 +144,17 @@ module _ {block : ℕ} {xs : List ℕ} {gs : List Region} {s : List ℕ} where
         behind = subst (λ (k : ℕ). drop (2 * k) u ≡ drop (2 * k) t) (same_pairs t s g.whole) l.behind ∙ g.behind;
       }
 
-module _ (p : Plan) {block : ℕ} {xs : List ℕ} {s t : List ℕ} {i at : ℕ} (g : LayingAll block xs (regions_of p) s t i at) where
-  pub plan_turns : {u : List ℕ} {n : ℕ} → i < length (regions_of p) → places ≤ length (pairs xs)
-      → Lays t u at (laid block xs (get_or p.regions i past_region)) → n ≡ at + length (laid block xs (get_or p.regions i past_region)) → length u ≡ length t
-      → LayingAll block xs (regions_of p) s u (i + 1) n
-  plan_turns {u} {n} h long l e w =
-      let c : i < p.count = let m = length-take p.count p.regions in omega arith in
-      let q = get_or-take p.count p.regions i past_region c in
-      all_turns g h long (rw q l) (rw q e) w
+-- over the regions that a plan counts
+module _ (p : Plan) {n : ℕ} (c : n ≡ length (regions_of p)) {block : ℕ} {xs : List ℕ} {s t : List ℕ} {i at : ℕ} (f : LayingAll block xs (take n p.regions) s t i at) where
+  g : LayingAll block xs (regions_of p) s t i at
+  g = subst (λ (rs : List Region). LayingAll block xs rs s t i at) (counted_are p n c) f
 
-  module _ (b : block ≡ block_in p) (h : length (regions_of p) ≤ i) where
+  module _ (b : block ≡ block_in p) (h : length (take n p.regions) ≤ i) where
+    past : length (regions_of p) ≤ i
+    past = subst (λ (rs : List Region). length rs ≤ i) (counted_are p n c) h
+
     whole_is : laid_each block xs (take i (regions_of p)) ≡ laid_all p xs
-    whole_is = rw b (ap (laid_each (block_in p) xs) (take_all i (regions_of p) h))
+    whole_is = rw b (ap (laid_each (block_in p) xs) (take_all i (regions_of p) past))
 
     pub all_ends : Lays s t 0 (laid_all p xs)
     all_ends = record { stored = g.stored ∙ ap (sets (pairs s) 0) whole_is; behind = g.behind }

@@ -1,5 +1,6 @@
 pub mod Rows
 pub mod Places
+pub mod Counted
 pub mod Naming
 pub mod Laying
 pub mod Holding

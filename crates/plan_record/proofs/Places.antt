@@ -1,23 +1,24 @@
 -- The region of a number by its place: which it is, and what changing or dropping it leaves.
+use Rattle.std.proofs.lemmas.Iterator.Adapters.{position_from-zero}
+use Rattle.std.specs.List.{position_from}
+use Rattle.std.specs.Prelude.{Option, Some, None}
 use Prim.Native.Nat.{ℕ, suc, ◌+◌, ◌≤◌, ◌<◌}
 use mathlib.Core.Bool.{true-or, false-or}
 use mathlib.Core.List.{List, [], ◌∷◌, ◌++◌, map}
 use mathlib.Core.Path.{◌≡◌, refl, ap, sym, ◌∙◌}
-use native.Mathlib.Numerals.{add-one}
 use native.Mathlib.Omega.{arith}
-use lib.Dec.{ltb}
-use lib.ListN.{length, take, drop, set, get_or, drop_of_length-le, length-map, length-take}
-use lib.Seq.{drop-cons, get_or-take}
+use lib.Dec.{ltb, eqb}
+use lib.ListN.{length, take, drop, set, get_or}
 use borrow.Author.Tests.{eq-eqb, ne_eqb, lt-ltb, le-ltb}
 use Rattle.model.specs.Region.{Region, no_region, id_of, region_of, on_region, without}
 use Rattle.numbers.specs.Keyed.{has_key, keyed}
 use Rattle.numbers.specs.Lists.{any}
-use Rattle.plan_record.specs.Plan.{regions_of, number_of, place_of, spot_of, past_region}
+use Rattle.plan_record.specs.Plan.{regions_of, number_of, place_of, spot_of, place_in}
+use Rattle.plan_record.specs.declared.Region as plan
 use Rattle.plan_record.specs.declared.Plan.{Plan}
-use Rattle.numbers.proofs.Cases.{by_eq, by_lt}
-use Rattle.numbers.proofs.Lists.{mapped_at}
+use Rattle.numbers.proofs.Cases.{by_eq, by_lt, none_some, same_some}
 
--- ---- the search from a place on
+-- ---- the search
 
 module _ (id : ℕ) where
   pub place_most : (ns : List ℕ) → place_of id ns ≤ length ns
@@ -26,43 +27,34 @@ module _ (id : ℕ) where
   place_most (n ∷ ns) =
       let l = place_most ns in by_eq n id (λ e. simp (eq-eqb _ _ e) (omega arith)) (λ d. simp (ne_eqb _ _ d) (omega arith))
 
-  module _ (ns : List ℕ) (i : ℕ) where
-    pub place_here : i < length ns → get_or ns i 0 ≡ id → place_of id (drop i ns) ≡ 0
-    unfolding place_of
-    place_here h e = rw (drop-cons ns i 0 h) (simp (eq-eqb _ _ e))
+  abbrev place : List plan.Region → ℕ
+  place gs = place_of id (map number_of gs)
 
-    pub place_later : i < length ns → (get_or ns i 0 ≡ id → ⊥) → place_of id (drop i ns) ≡ 1 + place_of id (drop (i + 1) ns)
-    unfolding place_of
-    place_later h d = rw (drop-cons ns i 0 h) (rw add-one (simp (ne_eqb _ _ d) (omega arith)))
+  abbrev from : ℕ → List plan.Region → Option ℕ
+  from n gs = position_from (λ (r : plan.Region). eqb r.number id) n gs
 
-    pub place_none : length ns ≤ i → place_of id (drop i ns) ≡ 0
-    unfolding place_of
-    place_none h = rw (drop_of_length-le ns h)
+  found_from : (n i : ℕ) (gs : List plan.Region) → from n gs ≡ Some i → (i ≡ n + place gs) × (place gs < length gs)
+  unfolding place_of
+  found_from n i [] e = absurd (none_some e)
+  found_from n i (g ∷ gs) e =
+      by_eq g.number id
+      (λ q. let h : Some n ≡ Some i = simp (eq-eqb _ _ q) at e in simp (eq-eqb _ _ q) (omega (arith, same_some h), omega arith))
+      (λ d. let h : from (n + 1) gs ≡ Some i = simp (ne_eqb _ _ d) at e in let r = found_from (n + 1) i gs h in simp (ne_eqb _ _ d) (omega (arith, r.0), omega (arith, r.1)))
 
--- ---- the search in a plan
+  none_from : (n : ℕ) (gs : List plan.Region) → from n gs ≡ None → place gs ≡ length gs
+  unfolding place_of
+  none_from n [] e = refl
+  none_from n (g ∷ gs) e =
+      by_eq g.number id
+      (λ q. let h : Some n ≡ None = simp (eq-eqb _ _ q) at e in absurd (none_some (sym h)))
+      (λ d. let h : from (n + 1) gs ≡ None = simp (ne_eqb _ _ d) at e in simp (ne_eqb _ _ d) (ap suc (none_from (n + 1) gs h)))
 
-module _ (p : Plan) (id i : ℕ) (h : i < length (regions_of p)) where
-  abbrev numbers : List ℕ
-  numbers = map number_of (regions_of p)
+-- what `find` tells
+pub found_is : (p : Plan) (id i : ℕ) → place_in p id ≡ Some i → (i ≡ spot_of p id) × (i < length (regions_of p))
+found_is p id i e = let r = found_from id 0 i (regions_of p) (sym (position_from-zero (λ (g : plan.Region). eqb g.number id) (regions_of p)) ∙ e) in (omega (arith, r.0), omega (arith, r.0, r.1))
 
-  inside : i < length numbers
-  inside = rw length-map h
-
-  number_at : get_or numbers i 0 ≡ (get_or p.regions i past_region).number
-  number_at =
-      let l : i < p.count = let m = length-take p.count p.regions in omega arith in
-      mapped_at number_of (regions_of p) i past_region 0 h ∙ ap number_of (get_or-take p.count p.regions i past_region l)
-
-  module _ (s : spot_of p id ≡ i + place_of id (drop i numbers)) where
-    pub spot_here : (get_or p.regions i past_region).number ≡ id → i ≡ spot_of p id
-    spot_here e = let z = place_here id numbers i inside (number_at ∙ e) in omega arith
-
-    pub spot_later : ((get_or p.regions i past_region).number ≡ id → ⊥) → spot_of p id ≡ i + 1 + place_of id (drop (i + 1) numbers)
-    spot_later d = let z = place_later id numbers i inside (λ e. d (sym number_at ∙ e)) in omega arith
-
-pub spot_none : (p : Plan) (id n i : ℕ) → n ≡ length (regions_of p) → n ≤ i → i ≤ n → spot_of p id ≡ i + place_of id (drop i (map number_of (regions_of p)))
-    → n ≡ spot_of p id
-spot_none p id n i e l m s = let z = place_none id (map number_of (regions_of p)) i (rw length-map (omega arith)) in omega arith
+pub none_is : (p : Plan) (id : ℕ) → place_in p id ≡ None → spot_of p id ≡ length (regions_of p)
+none_is p id e = none_from id 0 (regions_of p) (sym (position_from-zero (λ (g : plan.Region). eqb g.number id) (regions_of p)) ∙ e)
 
 -- ---- the region at that place
 

@@ -1,4 +1,7 @@
 -- The accounts of a valid plan: which postings are refused, and that the rows of the plan handed back have its totals.
+use Rattle.numbers.specs.declared.refusal.Refusal.TheVariants.{Full}
+use Rattle.accounting.specs.Inner.{KeepsTag}
+use Rattle.std.specs.Prelude.{None, Option, Ok, Err}
 use Prim.Native.Nat.{ℕ, ◌+◌, ◌-◌, ◌≤◌, ◌<◌}
 use mathlib.Core.Bool.{true, false, not}
 use mathlib.Core.List.{List, map}
@@ -14,9 +17,7 @@ use Rattle.numbers.specs.Keyed.{HasKey}
 use Rattle.plan_record.specs.Plan.{rows_of, cap_of, world_of, Valid}
 use Rattle.plan_record.specs.declared.Plan.{Plan}
 use Rattle.tagspace.specs.Row.{blank, add_usage, remove_usage}
-use Rattle.tagspace.specs.declared.Cap.{Cap}
 use Rattle.tagspace.specs.declared.TagSpace.{TagSpace}
-use Rattle.accounting.proofs.Handing.{KeepsTag}
 use Rattle.accounting.proofs.Tables.{table_accounts}
 use Rattle.accounting.proofs.Words.{own_row, other_row, refused_full, kept_known, kept_room}
 use Rattle.model.proofs.Figures.{held_most, physical_most, logical_most}
@@ -27,11 +28,10 @@ use Rattle.numbers.proofs.Cases.{cases, by_eq, clash, and-true}
 use Rattle.numbers.proofs.Keyed.{map_keyed, map_put, map_has, key_true, true_key, put_same, keyed_any_key}
 use Rattle.accounting.specs.Table as accounting
 use Rattle.model.specs.World as model
-use Rattle.tagspace.specs.declared.Cap.TheVariants as cap_is
 
 -- ---- a plan's rows in its world
 
-same_row : (r : TagSpace) (tag logical physical reserved : ℕ) (cap : Cap) → r.tag ≡ tag → r.logical ≡ logical → r.physical ≡ physical → r.reserved ≡ reserved → r.cap ≡ cap
+same_row : (r : TagSpace) (tag logical physical reserved : ℕ) (cap : Option ℕ) → r.tag ≡ tag → r.logical ≡ logical → r.physical ≡ physical → r.reserved ≡ reserved → r.cap ≡ cap
     → r ≡ record { tag = tag; logical = logical; physical = physical; reserved = reserved; cap = cap }
 same_row r tag logical physical reserved cap a b c d e = rw (← a, ← b, ← c, ← d, ← e)
 
@@ -78,7 +78,7 @@ module _ (p : Plan) (xs ss fs : List ℕ) (v : Valid p xs ss fs) (tag : ℕ) (ru
   few = omega (arith, rows_many, v.sound.rows_few)
 
   pub posting_full : tag_full w tag ≡ true
-      → accounting.handed (table_in p) (accounting.on_row tag rule (table_in p)) ≡ record { refusal = 19; accounts = accounting.accounts_of (table_in p) }
+      → accounting.handed (table_in p) (accounting.on_row tag rule (table_in p)) ≡ record { answer = Err Full; accounts = accounting.accounts_of (table_in p) }
   unfolding tag_full
   posting_full e =
       let a = and-true (not (model.has_row w tag)) (leb 96 (length w.rows)) e in
@@ -87,7 +87,7 @@ module _ (p : Plan) (xs ss fs : List ℕ) (v : Valid p xs ss fs) (tag : ℕ) (ru
       refused_full tag rule keeps (table_in p) (λ h. clash (has-row p xs tag h) (not-true _ a.0)) (omega arith)
 
   pub posting_fine : tag_full w tag ≡ false
-      → accounting.handed (table_in p) (accounting.on_row tag rule (table_in p)) ≡ record { refusal = 0; accounts = accounting.accounts_of (accounting.on_row tag rule (table_in p)) }
+      → accounting.handed (table_in p) (accounting.on_row tag rule (table_in p)) ≡ record { answer = Ok tt; accounts = accounting.accounts_of (accounting.on_row tag rule (table_in p)) }
   unfolding tag_full
   posting_fine e =
       cases (model.has_row w tag)
@@ -99,7 +99,7 @@ module _ (p : Plan) (xs ss fs : List ℕ) (v : Valid p xs ss fs) (tag : ℕ) (ru
 
   -- what a posting hands back where it is not refused
   pub record Taken (q : Posted) : Type 0 where
-    pub number : q.refusal ≡ 0
+    pub number : q.answer ≡ Ok tt
     pub table : accounting.table_of q.accounts ≡ accounting.on_row tag rule (table_in p)
     pub valid : accounting.Valid q.accounts
 
@@ -107,13 +107,13 @@ module _ (p : Plan) (xs ss fs : List ℕ) (v : Valid p xs ss fs) (tag : ℕ) (ru
   posting_taken q o e =
       let h = o.answer v.accounts ∙ posting_fine e in
       record {
-        number = ap (λ (r : Posted). r.refusal) h;
+        number = ap (λ (r : Posted). r.answer) h;
         table = ap (λ (r : Posted). accounting.table_of r.accounts) h ∙ table_accounts (accounting.on_row tag rule (table_in p));
         valid = o.valid v.accounts;
       }
 
-  pub posting_refused : (q : Posted) → accounting.Posts p.accounts (accounting.on_row tag rule) q → tag_full w tag ≡ true → q.refusal ≡ 19
-  posting_refused q o e = ap (λ (r : Posted). r.refusal) (o.answer v.accounts ∙ posting_full e)
+  pub posting_refused : (q : Posted) → accounting.Posts p.accounts (accounting.on_row tag rule) q → tag_full w tag ≡ true → q.answer ≡ Err Full
+  posting_refused q o e = ap (λ (r : Posted). r.answer) (o.answer v.accounts ∙ posting_full e)
 
 -- a tag that has a row is no 97th one
 pub row_no_full : (w : model.World) (tag : ℕ) → HasKey model.tag_of tag w.rows → tag_full w tag ≡ false
@@ -151,7 +151,7 @@ with-tag tag rule t k =
 
 -- where it has a row, they stay
 pub tag_there : (p : Plan) (xs ss fs : List ℕ) → Valid p xs ss fs → (tag : ℕ) → HasKey model.tag_of tag (world_of p xs).rows → model.with_tag tag (world_of p xs).rows ≡ (world_of p xs).rows
-tag_there p xs ss fs v tag h = put_same model.tag_of (model.tag_row tag cap_is.Nothing) tag (world_of p xs).rows v.sound.order h
+tag_there p xs ss fs v tag h = put_same model.tag_of (model.tag_row tag None) tag (world_of p xs).rows v.sound.order h
 
 -- a posting to a tag that has a row, by a rule that leaves the cap, leaves the world's rows
 pub rows_stay : (p : Plan) (xs ss fs : List ℕ) → Valid p xs ss fs → (tag : ℕ) (rule : TagSpace → TagSpace) → ((r : TagSpace) → cap_of (rule r) ≡ cap_of r)

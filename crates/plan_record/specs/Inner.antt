@@ -5,7 +5,7 @@ use Rattle.numbers.specs.Lists.{any, same}
 use Rattle.numbers.specs.Pairs.{pairs}
 use Rattle.numbers.specs.Range.{Range, range}
 use Rattle.plan_record.specs.Plan.{row_in, regions_of}
-use Rattle.plan_record.specs.Record.{name_of}
+use Rattle.plan_record.specs.Record.{text_of}
 use Rattle.plan_record.specs.declared.Plan.{Plan}
 use Rattle.plan_record.specs.declared.Record.{Record}
 use Rattle.plan_record.specs.declared.Region.{Region}
@@ -19,7 +19,7 @@ abbrev pub held_by : ℕ → Region → ℕ
 held_by block r = 2 * block + r.map.capacity
 
 abbrev pub has_name : List ℕ → Region → Bool
-has_name name r = same (name_of r.name r.name_len) name
+has_name name r = same (text_of r.name) name
 
 -- What `named` tells of a name of at most 24 bytes.
 pub record Named (p : Plan) (name : List ℕ) (r : Bool) : Type 0 where
@@ -52,7 +52,6 @@ record_for r n =
       number = r.number;
       tag = r.tag;
       name = r.name;
-      name_len = r.name_len;
       entry =
           record {
             kind = r.kind;

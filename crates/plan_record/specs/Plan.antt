@@ -1,6 +1,6 @@
 -- What a plan means: the world that its record and its lent lists stand for, and what every plan that a call handed back has.
-use Rattle.std.specs.Prelude.{ℕ, suc, ◌*◌, ◌<◌, ◌≤◌, Bool, cond, ◌||◌, List, [], ◌∷◌, map, ◌≡◌, eqb, ltb, length, take, drop, replicate}
-use Rattle.std.proofs.Math.Option.{Option, none, some}
+use Rattle.numbers.specs.declared.refusal.Refusal.{Refusal}
+use Rattle.std.specs.Prelude.{ℕ, suc, ◌*◌, ◌<◌, ◌≤◌, Bool, cond, ◌||◌, List, [], ◌∷◌, map, ◌≡◌, eqb, ltb, length, take, drop, replicate, Option, Result, position}
 use Rattle.accounting.specs.Entries.{no_tags}
 use Rattle.accounting.specs.Table as accounting
 use Rattle.footprint.specs.declared.RegionKind.TheVariants.{Append}
@@ -9,12 +9,11 @@ use Rattle.model.specs.World.{World, TagRow, tag_row, account_of}
 use Rattle.model.proofs.Sound as model_sound
 use Rattle.numbers.specs.Lists.{All, Distinct}
 use Rattle.numbers.specs.Pairs.{pairs}
-use Rattle.numbers.specs.Refusals.{Answer, accepted, refused}
-use Rattle.plan_record.specs.Record.{name_of}
+use Rattle.numbers.specs.Refusals.{Answer, told}
+use Rattle.plan_record.specs.Record.{text_of, no_name}
+use Rattle.plan_record.specs.declared.names.Name.{Name}
 use Rattle.plan_record.specs.declared.Plan.{Plan}
 use Rattle.plan_record.specs.declared.Region.{Region}
-use Rattle.plan_record.specs.declared.Reply.{Reply}
-use Rattle.plan_record.specs.declared.Reply.TheVariants as reply
 use Rattle.regionmap.specs.Map as regionmap
 use Rattle.tagspace.specs.declared.TagSpace.{TagSpace}
 
@@ -40,7 +39,7 @@ region_of xs r =
     record {
       number = r.number;
       tag = r.tag;
-      name = name_of r.name r.name_len;
+      name = text_of r.name;
       kind = r.kind;
       flags = r.flags;
       log2 = r.log2_block;
@@ -113,27 +112,32 @@ unfoldable pub place_of : ℕ → List ℕ → ℕ
 place_of id [] = 0
 place_of id (n ∷ ns) = cond (eqb n id) 0 (suc (place_of id ns))
 
--- The place of a region in the record.
+-- The first place among the regions that has the number.
+abbrev pub place_in : Plan → ℕ → Option ℕ
+place_in p id = position (λ (r : Region). eqb r.number id) (regions_of p)
+
+-- That place as a number, the count where there is none.
 abbrev pub spot_of : Plan → ℕ → ℕ
 spot_of p id = place_of id (map number_of (regions_of p))
 
 -- ---- answers
 
--- A byte, none, or document 01's number.
+-- What a call answers: a byte, none, or why it is refused.
+abbrev pub Reply : Type 0
+Reply = Result (Option ℕ) Refusal
+
+-- The same by document 01's number.
 abbrev pub reply_of : Reply → Answer (Option ℕ)
-reply_of (reply.At a) = accepted (some a)
-reply_of reply.Done = accepted none
-reply_of (reply.Refused n) = refused n
+reply_of r = told r
 
 -- ---- the plan of no container
 
-abbrev empty_region : List ℕ → ℕ → Region
+abbrev empty_region : Name → ℕ → Region
 empty_region name row =
     record {
       number = 0;
       tag = 0;
       name = name;
-      name_len = 0;
       kind = Append;
       flags = 0;
       log2_block = 0;
@@ -149,11 +153,11 @@ empty_region name row =
 
 -- No region, in a row.
 abbrev pub blank_region : ℕ → Region
-blank_region row = empty_region (replicate 24 0) row
+blank_region row = empty_region no_name row
 
 -- What is read past the end of a list of regions.
 abbrev pub past_region : Region
-past_region = empty_region [] 0
+past_region = empty_region (record { bytes = []; len = 0 }) 0
 
 -- What a refused open hands back.
 abbrev pub blank_plan : Plan

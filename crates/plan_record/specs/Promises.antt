@@ -1,20 +1,18 @@
 -- What the readers of a plan promise, and the search for room.
-use Rattle.std.specs.Prelude.{ℕ, ◌<◌, not, ◌||◌, List, ◌≡◌, eqb, ltb, length, get_or}
-use Rattle.std.proofs.Math.Option.{none}
-use Rattle.freemap.specs.Fit as freemap
-use Rattle.freemap.specs.declared.Fit.{Fit}
+use Rattle.numbers.specs.declared.refusal.Refusal.{Refusal}
+use Rattle.numbers.specs.declared.refusal.Refusal.TheVariants.{Lists}
+use Rattle.std.specs.Prelude.{ℕ, ◌<◌, not, ◌||◌, List, ◌≡◌, eqb, ltb, length, get_or, Ok, Err, Result, Option}
 use Rattle.model.specs.Region.{no_region}
 use Rattle.model.specs.Span.{least_free}
 use Rattle.model.specs.World as model
 use Rattle.model.specs.World.{World}
 use Rattle.numbers.specs.Lists.{list_after}
 use Rattle.numbers.specs.Pairs.{pairs, flat}
-use Rattle.numbers.specs.Refusals.{accepted, refuse, answer}
+use Rattle.numbers.specs.Refusals.{accepted, refuse, refusal_in}
 use Rattle.plan_record.specs.Plan.{Valid, world_of, places, reply_of}
-use Rattle.plan_record.specs.Record.{record_of, blank_record, handed_from}
-use Rattle.plan_record.specs.declared.handing.Handed.{Handed}
+use Rattle.plan_record.specs.Record.{record_of, handed_from}
+use Rattle.plan_record.specs.declared.Record.{Record}
 use Rattle.plan_record.specs.declared.Plan.{Plan}
-use Rattle.plan_record.specs.declared.Reply.TheVariants.{Done, Refused}
 
 -- "Held is the sum of footprints"
 pub record HeldTold (p : Plan) (r : ℕ) : Type 0 where
@@ -43,16 +41,15 @@ unfoldable pub hand_refusal : World → ℕ → List ℕ → List ℕ → ℕ
 hand_refusal w i xs out =
     refuse 1 (ltb (length (pairs xs)) places || ltb (length (pairs out)) (length (get_or w.regions i no_region).extents))
 
-pub record Hands (p : Plan) (i : ℕ) (xs out₀ out : List ℕ) (r : Handed) : Type 0 where
-  pub answer : (ss fs : List ℕ) → Valid p xs ss fs
-      → reply_of r.reply ≡ answer (hand_refusal (world_of p xs) i xs out₀) none
-  pub record_is : (ss fs : List ℕ) → Valid p xs ss fs → r.reply ≡ Done
-      → record_of r.filed ≡ handed_from (get_or (world_of p xs).regions i no_region)
+pub record Hands (p : Plan) (i : ℕ) (xs out₀ out : List ℕ) (r : Result Record Refusal) : Type 0 where
+  pub answer : (ss fs : List ℕ) → Valid p xs ss fs → refusal_in r ≡ hand_refusal (world_of p xs) i xs out₀
+  pub record_is : (ss fs : List ℕ) (f : Record) → Valid p xs ss fs → r ≡ Ok f
+      → record_of f ≡ handed_from (get_or (world_of p xs).regions i no_region)
   pub slots : (ss fs : List ℕ) → Valid p xs ss fs
       → out ≡ list_after (not (eqb (hand_refusal (world_of p xs) i xs out₀) 0)) (flat (get_or (world_of p xs).regions i no_region).extents) out₀
-  pub refused : (n : ℕ) → r.reply ≡ Refused n → (r.filed ≡ blank_record) × (out ≡ out₀)
-  pub short : length (pairs xs) < places → r.reply ≡ Refused 1
+  pub refused : (n : Refusal) → r ≡ Err n → out ≡ out₀
+  pub short : length (pairs xs) < places → r ≡ Err Lists
 
 -- "first fit": the lowest free span of some bytes.
-pub record Fits (p : Plan) (n : ℕ) (xs : List ℕ) (r : Fit) : Type 0 where
-  pub told : (ss fs : List ℕ) → Valid p xs ss fs → 0 < n → freemap.place_of r ≡ accepted (least_free (world_of p xs) n)
+pub record Fits (p : Plan) (n : ℕ) (xs : List ℕ) (r : Result (Option ℕ) Refusal) : Type 0 where
+  pub told : (ss fs : List ℕ) → Valid p xs ss fs → 0 < n → reply_of r ≡ accepted (least_free (world_of p xs) n)

@@ -4,13 +4,21 @@ use Rattle.footprint.specs.declared.RegionKind.TheVariants.{Append}
 use Rattle.model.specs.Open as model
 use Rattle.model.specs.Region as region
 use Rattle.plan_record.specs.declared.Record.{Record}
+use Rattle.plan_record.specs.declared.names.Name.{Name}
 
 -- A name of n bytes that stands at the front of 24; bytes past these are 0, so that a length over 24 is refused as such.
 abbrev pub name_of : List ℕ → ℕ → List ℕ
 name_of bytes n = take n (bytes ++ replicate n 0)
 
+abbrev pub text_of : Name → List ℕ
+text_of n = name_of n.bytes n.len
+
+-- The empty name.
+abbrev pub no_name : Name
+no_name = record { bytes = replicate 24 0; len = 0 }
+
 abbrev pub record_of : Record → model.Record
-record_of r = record { number = r.number; tag = r.tag; name = name_of r.name r.name_len; entry = r.entry; header = r.header }
+record_of r = record { number = r.number; tag = r.tag; name = text_of r.name; entry = r.entry; header = r.header }
 
 -- No record.
 abbrev pub blank_record : Record
@@ -18,8 +26,7 @@ blank_record =
     record {
       number = 0;
       tag = 0;
-      name = replicate 24 0;
-      name_len = 0;
+      name = no_name;
       entry =
           record {
             kind = Append;

@@ -1,21 +1,20 @@
 // The bytes that are held and free.
-ghost use Rattle.std.specs.Prelude.{◌≡◌, map, ◌^◌, ◌≤◌, ◌<◌, min};
+ghost use Rattle.std.specs.Prelude.{◌≡◌, ◌+◌, fold, map};
 ghost use Rattle.numbers.specs.Sums.{stop, sum};
 ghost use Rattle.plan_record.specs.Plan.{regions_of};
 ghost use Rattle.plan_record.specs.Inner.{held_by};
 ghost use Rattle.plan_record.specs.Promises.{HeldTold, FreeTold, LogicalTold, PhysicalTold, LastTold, CountTold};
 
-use crate::Plan;
-use numbers::{add_stop, sub_stop};
+use crate::{Plan, Region};
+use footprint::block_of;
 
-// 2^log2 of a block log; no container has one above 16.
-pub fn block_of(log2: u8) -> u64
-    ensures { (result ≡ 2 ^ min log2 16) × (result ≤ 65536) × (0 < result) }
+// What regions hold together: two is two blocks.
+fn held_by(regions: &[Region], two: u64) -> u64
+    ensures { result ≡ fold (λ s r. stop (stop (s + two) + r.map.capacity)) 0 regions.now }
 {
-    if log2 > 16 {
-        return 65536;
-    }
-    1u64 << log2
+    regions.iter().fold(0u64, |sum, region| {
+        sum.saturating_add(two).saturating_add(region.map.capacity)
+    })
 }
 
 impl Plan {
@@ -23,25 +22,16 @@ impl Plan {
     pub fn held(self) -> u64
         ensures { HeldTold self result }
     {
-        let n = self.counted();
         let two = 2 * block_of(self.limits.log2_block);
-        let mut sum = 0;
-        let mut i = 0;
-        while i < n {
-            sum = add_stop(sum, add_stop(two, self.regions[i].map.capacity));
-            i += 1;
-        }
-        sum
+        held_by(&self.regions[..self.counted()], two)
     }
 
     // What the held bytes leave of the container behind its table.
     pub fn free(self) -> u64
         ensures { FreeTold self result }
     {
-        sub_stop(
-            sub_stop(self.limits.file_len, self.limits.table_end),
-            self.held(),
-        )
+        let behind = self.limits.file_len.saturating_sub(self.limits.table_end);
+        behind.saturating_sub(self.held())
     }
 
     // The published bytes of a tag's regions.

@@ -4,16 +4,11 @@ ghost use Rattle.plan_record.specs.Inner.{record_for};
 ghost use Rattle.plan_record.specs.Promises.{Hands};
 ghost use Rattle.plan_record.specs.Record.{blank_record};
 
-use crate::footprints::lay_extents;
-use crate::{Plan, Record, Region, Reply};
+use crate::footprints::{Rows, lay_extents};
+use crate::names::Name;
+use crate::{Plan, Record, Region};
 use footprint::{Entry, Header, RegionKind};
-
-// The answer, and the record.
-#[derive(Clone, Copy)]
-pub struct Handed {
-    pub reply: Reply,
-    pub filed: Record,
-}
+use numbers::Refusal;
 
 impl Record {
     // No record.
@@ -23,8 +18,7 @@ impl Record {
         Record {
             number: 0,
             tag: 0,
-            name: [0; 24],
-            name_len: 0,
+            name: Name::none(),
             entry: Entry {
                 kind: RegionKind::Append,
                 flags: 0,
@@ -53,13 +47,11 @@ impl Record {
 fn record_of(region: Region, n: u16) -> Record
     ensures { result ≡ record_for region n }
 {
-    let name = region.name;
     let kind = region.kind;
     Record {
         number: region.number,
         tag: region.tag,
-        name,
-        name_len: region.name_len,
+        name: region.name,
         entry: Entry {
             kind,
             flags: region.flags,
@@ -84,34 +76,22 @@ fn record_of(region: Region, n: u16) -> Record
 }
 
 impl Plan {
-    // The region at place i, with its extents in out.
-    pub fn region(self, i: usize, extents: &[u64], out: &mut [u64]) -> Handed
+    // The region at place i, with its extents in out; a blank record past the last.
+    pub fn region(self, i: usize, extents: &[u64], out: &mut [u64]) -> Result<Record, Refusal>
         ensures { Hands self i extents.now out.old out.new result }
     {
         if extents.len() < 7680 {
-            return Handed {
-                reply: Reply::Refused(1),
-                filed: Record::blank(),
-            };
+            return Err(Refusal::Lists);
         }
         if i >= self.counted() {
-            return Handed {
-                reply: Reply::Done,
-                filed: Record::blank(),
-            };
+            return Ok(Record::blank());
         }
         let region = self.regions[i];
         let n = region.own_count();
         if out.len() / 2 < n {
-            return Handed {
-                reply: Reply::Refused(1),
-                filed: Record::blank(),
-            };
+            return Err(Refusal::Lists);
         }
-        lay_extents(region, extents, out, 0);
-        Handed {
-            reply: Reply::Done,
-            filed: record_of(region, n as u16),
-        }
+        lay_extents(region, Rows { extents }, out, 0);
+        Ok(record_of(region, n as u16))
     }
 }

@@ -8,10 +8,12 @@ pub mod names;
 pub mod room;
 
 ghost use Rattle.std.specs.Prelude.{◌≡◌, ◌≤◌, length};
-ghost use Rattle.plan_record.specs.Plan.{regions_of, spot_of, blank_region, blank_plan};
+ghost use Rattle.plan_record.specs.Plan.{regions_of, place_in, blank_region, blank_plan};
 
 use accounting::Accounting;
 use footprint::{Entry, Header, Limits, RegionKind};
+use names::Name;
+use numbers::Refusal;
 use regionmap::RegionMap;
 
 // A region as its table entry and its header have it, of which open takes up to 64.
@@ -19,9 +21,7 @@ use regionmap::RegionMap;
 pub struct Record {
     pub number: u64,
     pub tag: u32,
-    // The first name_len bytes are the name.
-    pub name: [u8; 24],
-    pub name_len: u8,
+    pub name: Name,
     pub entry: Entry,
     pub header: Header,
 }
@@ -32,8 +32,7 @@ pub struct Record {
 pub struct Region {
     pub number: u64,
     pub tag: u32,
-    pub name: [u8; 24],
-    pub name_len: u8,
+    pub name: Name,
     pub kind: RegionKind,
     pub flags: u8,
     pub log2_block: u8,
@@ -53,21 +52,18 @@ pub struct Plan {
     pub limits: Limits,
     // The last sequence number.
     pub last: u64,
-    // How many regions there are. The others name the rows that are free.
+    // How many regions there are. The others name the rows that are free. There is no heap, so the regions
+    // are an array with a count.
     pub count: usize,
     pub regions: [Region; 64],
     pub accounts: Accounting,
 }
 
-// What a call answers: a byte, that it is done, or document 01's refusal.
-#[derive(Clone, Copy)]
-pub enum Reply {
-    At(u64),
-    Done,
-    Refused(u64),
-}
+// What a call answers: the byte that it places or locates, or None where it is done without one.
+pub type Reply = Result<Option<u64>, Refusal>;
 
-// The answer of a call that may change the plan, and the plan as it left it.
+// The answer of a call that may change the plan, and the plan as it left it, which a refused call hands back
+// too.
 #[derive(Clone, Copy)]
 pub struct Outcome {
     pub reply: Reply,
@@ -82,8 +78,7 @@ impl Region {
         Region {
             number: 0,
             tag: 0,
-            name: [0; 24],
-            name_len: 0,
+            name: Name::none(),
             kind: RegionKind::Append,
             flags: 0,
             log2_block: 0,
@@ -128,24 +123,16 @@ impl Plan {
     pub fn counted(self) -> usize
         ensures { (result ≡ length (regions_of self)) × (result ≤ 64) }
     {
-        if self.count > 64 {
-            return 64;
-        }
-        self.count
+        self.count.min(64)
     }
 
-    // The place of the region with the number, or the count.
-    pub fn find(self, id: u64) -> usize
-        ensures { result ≡ spot_of self id }
+    // The place of the region with the number.
+    pub fn find(self, id: u64) -> Option<usize>
+        ensures { result ≡ place_in self id }
     {
-        let n = self.counted();
-        let mut i = 0;
-        while i < n {
-            if self.regions[i].number == id {
-                return i;
-            }
-            i += 1;
-        }
-        n
+        self.regions
+            .iter()
+            .take(self.count)
+            .position(|region| region.number == id)
     }
 }

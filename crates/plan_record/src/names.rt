@@ -1,45 +1,57 @@
 // Names: one written into a region, and one looked for among the regions.
 ghost use Rattle.std.specs.Prelude.{◌≡◌, ◌≤◌, length};
-ghost use Rattle.numbers.specs.Lists.{any, same};
-ghost use Rattle.plan_record.specs.Plan.{regions_of};
-ghost use Rattle.plan_record.specs.Record.{name_of};
+ghost use Rattle.std.specs.List.{list_any};
+ghost use Rattle.plan_record.specs.Record.{text_of, no_name};
 ghost use Rattle.plan_record.specs.Inner.{has_name, Named};
 
-use crate::Plan;
+use crate::{Plan, Region};
 
-// Whether the first len of 24 bytes are the name.
-fn same_name(bytes: [u8; 24], len: u8, name: &[u8]) -> bool
-    requires { length name.now ≤ 24 }
-    ensures { result ≡ same (name_of bytes len) name.now }
-{
-    let n = len as usize;
-    if n != name.len() {
-        return false;
-    }
-    let mut k = 0;
-    while k < n {
-        if bytes[k] != name[k] {
-            return false;
-        }
-        k += 1;
-    }
-    true
+// A name at the front of 24 bytes. A record from outside may say that it is longer.
+#[derive(Clone, Copy)]
+pub struct Name {
+    pub bytes: [u8; 24],
+    pub len: u8,
 }
 
-// A name at the front of 24 bytes, as far as it goes.
-pub fn name_bytes(name: &[u8]) -> [u8; 24]
-    ensures { length name.now ≤ 24 → name_of result (length name.now) ≡ name.now }
-{
-    let mut bytes = [0u8; 24];
-    let mut k = 0;
-    while k < name.len() {
-        if k >= 24 {
-            return bytes;
+impl Name {
+    // The empty name.
+    pub fn none() -> Name
+        ensures { result ≡ no_name }
+    {
+        Name {
+            bytes: [0; 24],
+            len: 0,
         }
-        bytes[k] = name[k];
-        k += 1;
     }
-    bytes
+
+    // The name, as far as 24 bytes go.
+    pub fn of(name: &[u8]) -> Name
+        ensures { length name.now ≤ 24 → text_of result ≡ name.now }
+    {
+        let len = name.len().min(24);
+        let mut bytes = [0u8; 24];
+        bytes[..len].copy_from_slice(&name[..len]);
+        Name {
+            bytes,
+            len: len as u8,
+        }
+    }
+}
+
+// Whether a region has the name. Longer names are told apart before, so these ask for at most 24 bytes.
+fn has_name(region: &Region, name: &[u8]) -> bool
+    requires { length name.now ≤ 24 }
+    ensures { result ≡ has_name name.now region.now }
+{
+    region.name.len as usize == name.len() && region.name.bytes.starts_with(name)
+}
+
+// Whether one of the regions has it.
+fn any_named(regions: &[Region], name: &[u8]) -> bool
+    requires { length name.now ≤ 24 }
+    ensures { result ≡ list_any (has_name name.now) regions.now }
+{
+    regions.iter().any(|region| has_name(region, name))
 }
 
 impl Plan {
@@ -50,16 +62,6 @@ impl Plan {
         if name.len() > 24 {
             return false;
         }
-        let n = self.counted();
-        let mut i = 0;
-        while i < n {
-            let g = self.regions[i];
-            let bytes = g.name;
-            if same_name(bytes, g.name_len, name) {
-                return true;
-            }
-            i += 1;
-        }
-        false
+        any_named(&self.regions[..self.counted()], name)
     }
 }

@@ -4,39 +4,38 @@ ghost use Rattle.numbers.specs.Pairs.{pairs};
 ghost use Rattle.plan_record.specs.Plan.{places};
 ghost use Rattle.plan_record.specs.Promises.{Fits};
 
-use crate::Plan;
-use crate::figures::block_of;
-use freemap::{Complement, Fit, FreeMap};
+use crate::footprints::Rows;
+use crate::{Plan, Reply};
+use footprint::block_of;
+use freemap::FreeMap;
+use numbers::Refusal;
 
 impl Plan {
     // First fit of n bytes, with room for the ranges and the gaps.
-    fn fit_among(self, n: u64, extents: &[u64], ranges: &mut [u64], gaps: &mut [u64]) -> Fit
-        requires { (places ≤ length (pairs extents.now)) × (length ranges.old ≡ 7936) × (length gaps.old ≡ 7938) }
-        ensures { Fits self n extents.now result }
+    fn fit_among(self, n: u64, rows: Rows<'_>, ranges: &mut [u64], gaps: &mut [u64]) -> Reply
+        requires { (length ranges.old ≡ 7936) × (length gaps.old ≡ 7938) }
+        ensures { Fits self n rows.entry.extents.now result }
     {
-        let count = self.lay_footprints(extents, ranges);
+        let count = self.lay_footprints(rows, ranges);
         let end = 2 * count;
-        let found = FreeMap::complement(
+        let map = FreeMap::complement(
             self.limits.table_end,
             self.limits.file_len,
             &mut ranges[0..end],
             gaps,
-        );
-        let Complement::Map(map) = found else {
-            return Fit::Refused(1);
-        };
+        )?;
         map.first_fit(gaps, n, block_of(self.limits.log2_block), 0)
     }
 
     // The lowest free span of n bytes that starts at a multiple of the block.
-    pub fn place(self, n: u64, extents: &[u64]) -> Fit
+    pub fn place(self, n: u64, extents: &[u64]) -> Reply
         ensures { Fits self n extents.now result }
     {
         if extents.len() < 7680 {
-            return Fit::Refused(1);
+            return Err(Refusal::Lists);
         }
         let mut ranges = [0u64; 7936];
         let mut gaps = [0u64; 7938];
-        self.fit_among(n, extents, &mut ranges, &mut gaps)
+        self.fit_among(n, Rows { extents }, &mut ranges, &mut gaps)
     }
 }

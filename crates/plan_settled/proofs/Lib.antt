@@ -1,6 +1,5 @@
 pub mod Filling
 pub mod Listing
-pub mod Naming
 pub mod Laying
 pub mod Passing
 pub mod Settling

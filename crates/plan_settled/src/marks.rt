@@ -1,68 +1,52 @@
 // Refusal 15: settlement marks a region overlapped or renamed.
-ghost use Rattle.std.specs.Prelude.{not, ◌≡◌, ◌≤◌, ◌%◌, eqb, length, take};
+ghost use Rattle.std.specs.Prelude.{◌≡◌, length};
+ghost use Rattle.std.specs.List.{list_any};
 ghost use Rattle.model.specs.Open.{marked};
-ghost use Rattle.numbers.specs.Lists.{any};
 ghost use Rattle.plan_settled.specs.Settled.{spoils, Passed, regions_in};
 
-use crate::fields::{list_fields, list_names};
+use crate::fields::list_fields;
 use crate::lay::lay_all;
-use footprint::Limits;
-use plan_record::Record;
-use settle::settle;
+use plan_checks::Opening;
+use settle::{Records, settle};
 
-// Whether one of the first count marks says overlapped or renamed.
-fn some_marked(marks: &[u8], count: usize) -> bool
-    requires { count ≤ length marks.now }
-    ensures { result ≡ any spoils (take count marks.now) }
+// Whether one of the marks says overlapped or renamed.
+fn some_marked(marks: &[u8]) -> bool
+    ensures { result ≡ list_any spoils marks.now }
 {
-    let mut i = 0;
-    while i < count {
-        if marks[i] % 4 != 0 {
-            return true;
-        }
-        i += 1;
-    }
-    false
+    marks.iter().any(|mark| *mark % 4 != 0)
 }
 
 // The same with a list for the ranges of all footprints.
-fn marked_with(
-    limits: Limits,
-    records: [Record; 64],
-    count: usize,
-    listed: &[u64],
-    scratch: &mut [u64],
-    ranges: &mut [u64],
-) -> bool
-    requires { Passed limits records count listed.now (length scratch.old) × (length ranges.old ≡ 7936) }
-    ensures { result ≡ marked limits (regions_in records count listed.now) }
+fn marked_with(opening: Opening<'_>, scratch: &mut [u64], ranges: &mut [u64]) -> bool
+    requires { Passed opening.limits opening.records.now opening.listed.now (length scratch.old) × (length ranges.old ≡ 7936) }
+    ensures { result ≡ marked opening.entry.limits (regions_in opening.entry.records.now opening.entry.listed.now) }
 {
+    let records = opening.records;
     let mut seqs = [0u64; 64];
     let mut counts = [0u64; 64];
     let mut lens = [0u8; 64];
-    list_fields(records, count, &mut seqs, &mut counts, &mut lens);
-    let mut names = [0u8; 1536];
-    list_names(records, count, &mut names);
-    lay_all(limits, records, count, listed, ranges);
+    let mut names = [[0u8; 24]; 64];
+    list_fields(records, &mut seqs, &mut counts, &mut lens, &mut names);
+    lay_all(opening, ranges);
     let mut marks = [0u8; 64];
-    let _done = settle(
-        count, &seqs, &counts, ranges, &lens, &names, 0, &seqs, &counts, ranges, &lens, &names,
-        &mut marks, scratch,
-    );
-    some_marked(&marks, count)
+    let usable = Records {
+        count: records.len(),
+        seqs: &seqs,
+        counts: &counts,
+        ranges,
+        lens: &lens,
+        names: names.as_flattened(),
+    };
+    let unavailable = Records { count: 0, ..usable };
+    let _done = settle(usable, unavailable, &mut marks, scratch);
+    some_marked(&marks[..records.len()])
 }
 
 // Whether settlement marks a record, once 1 to 14 have passed.
-pub(crate) fn marked(
-    limits: Limits,
-    records: [Record; 64],
-    count: usize,
-    listed: &[u64],
-    scratch: &mut [u64],
-) -> bool
-    requires { Passed limits records count listed.now (length scratch.old) }
-    ensures { result ≡ marked limits (regions_in records count listed.now) }
+pub(crate) fn marked(opening: Opening<'_>, scratch: &mut [u64]) -> bool
+    requires { Passed opening.limits opening.records.now opening.listed.now (length scratch.old) }
+    ensures { result ≡ marked opening.entry.limits (regions_in opening.entry.records.now opening.entry.listed.now) }
 {
     let mut ranges = [0u64; 7936];
-    marked_with(limits, records, count, listed, scratch, &mut ranges)
+    marked_with(opening, scratch, &mut ranges)
 }

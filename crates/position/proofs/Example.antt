@@ -4,7 +4,6 @@ use mathlib.Core.Path.{◌≡◌, ap, ◌∙◌}
 use lib.ListN.{replicate}
 use Rattle.model.specs.Open.{Opening, open_refusal}
 use Rattle.model.specs.Opens.{two}
-use Rattle.plan_checks.specs.Opening.{records_of}
 use Rattle.plan_open.specs.Open.{least_of}
 use Rattle.position.specs.Example.{arguments, scratch, lists, Example}
 use Rattle.position.specs.Runs.{opening_with}
@@ -16,7 +15,6 @@ abbrev placed : ℕ → Opening
 placed n = record { limits = two.limits; records = two.records; extents = two.extents; scratch = 128; places = n }
 
 says : opening_with arguments scratch lists ≡ two
-unfolding records_of
 says = ap (λ (n : ℕ). placed (least_of n 3840 3840)) (length_pairs (replicate 7680 0))
 
 pub example : Example

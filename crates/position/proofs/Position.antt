@@ -1,17 +1,15 @@
 -- The position theorem: what every list of calls leaves is the model's, and demand 3 holds of the model.
 use Prim.Native.Nat.{ℕ, ◌+◌}
 use mathlib.Core.List.{List, [], ◌∷◌}
-use mathlib.Core.Option.{Option, some, none}
+use Rattle.std.specs.Prelude.{Option, Some, None, Ok, Err}
 use mathlib.Core.Path.{◌≡◌, refl, ap, sym, subst, ◌∙◌}
 use native.Mathlib.Omega.{arith}
 use Rattle.model.specs.Calls.{Call, create, grow, publish, drop, cap, locate, answer_to, next, world_after, answers_along}
 use Rattle.model.specs.Open.{open_refusal, opened}
 use Rattle.model.specs.World.{World, held, free, physical, logical}
 use Rattle.numbers.specs.Refusals.{Answer, accepted, answer}
-use Rattle.plan_record.specs.Plan.{reply_of}
+use Rattle.plan_record.specs.Plan.{reply_of, Reply}
 use Rattle.plan_record.specs.declared.Outcome.{Outcome}
-use Rattle.plan_record.specs.declared.Reply.{Reply}
-use Rattle.plan_record.specs.declared.Reply.TheVariants.{Done, At, Refused}
 use Rattle.position.specs.Position.{Room, RoomFor, Rooms, After, Position}
 use Rattle.position.specs.Runs.{Whole, Loan, Loans, Arguments, OpensWith, opening_with, with_plan, Run, Locates}
 use Rattle.model.proofs.Demand.{sound_demand}
@@ -64,10 +62,11 @@ module _ (w₀ : World) (s₀ : Sound w₀) (cs : List Call) (ns : List (Answer 
   demand = sound_demand w sound
 
   -- a located position
-  found : (l : Loans) (id p : ℕ) (r : Reply) → model.Published w id p → Locates l h id p 1 r → reply_of r ≡ accepted (some (model.byte_at w id p))
+  found : (l : Loans) (id p : ℕ) (r : Reply) → model.Published w id p → Locates l h id p 1 r
+      → reply_of r ≡ accepted (Some (model.byte_at w id p))
   found l id p r b a = a.answer h.extents g.valid ∙ ap (λ (u : World). answer_to u (locate id p 1)) g.world ∙ demand.located id p b
 
-  some_same : {a b : ℕ} → some a ≡ some b → a ≡ b
+  some_same : {a b : ℕ} → Some a ≡ Some b → a ≡ b
   some_same e = cc
 
   after : After w₀ cs ns h w
@@ -84,7 +83,7 @@ module _ (w₀ : World) (s₀ : Sound w₀) (cs : List Call) (ns : List (Answer 
             let f = (sound_demand (world_after w ds) (after_sound w sound ds)).located id p z.0 in (
               z.0,
               y.answer k.extents u.valid ∙ ap (λ (v : World). answer_to v (locate id p 1)) e ∙ f
-                  ∙ ap (λ (n : ℕ). accepted (some n)) z.1 ∙ sym (found l id p r b x),
+                  ∙ ap (λ (n : ℕ). accepted (Some n)) z.1 ∙ sym (found l id p r b x),
             );
         forgets = demand.forgets;
         held_is = λ r x. x.told h.extents h.starts h.files g.valid ∙ ap held g.world;
@@ -99,23 +98,24 @@ module _ (w₀ : World) (s₀ : Sound w₀) (cs : List Call) (ns : List (Answer 
 
 -- ---- open
 
--- a reply that reads as an acceptance with no byte is Done
-done_read : (r : Reply) → reply_of r ≡ accepted none → r ≡ Done
-done_read Done e = refl
-done_read (At a) e = let z : ◌≡◌ {A = ℕ} 0 1 = cc in absurd (omega arith)
-done_read (Refused n) e = let z : ◌≡◌ {A = ℕ} 0 1 = cc in absurd (omega arith)
+-- a reply that reads as an acceptance with no byte is one
+done_read : (r : Reply) → reply_of r ≡ accepted None → r ≡ Ok None
+done_read (Ok None) e = refl
+done_read (Ok (Some a)) e = let z : ◌≡◌ {A = ℕ} 0 1 = cc in absurd (omega arith)
+done_read (Err n) e = let z : ◌≡◌ {A = ℕ} 0 1 = cc in absurd (omega arith)
 
-pub done_at : (r : Reply) {n : ℕ} → reply_of r ≡ answer n none → n ≡ 0 → r ≡ Done
-done_at r e z = done_read r (e ∙ answer_value _ none z)
+pub done_at : (r : Reply) {n : ℕ} → reply_of r ≡ answer n None → n ≡ 0 → r ≡ Ok None
+done_at r e z = done_read r (e ∙ answer_value _ None z)
 
-module _ (l : Loans) (a b : Loan) (o : Arguments) (s t : List ℕ) (h k : Whole) (r : Outcome) (x : OpensWith l a b o s h r t k) where
-  done : open_refusal (opening_with o s h) ≡ 0 → r.reply ≡ Done
+module _ (l : Loans) (q a b : Loan) (o : Arguments) (s t : List ℕ) (h k : Whole) (r : Outcome) (x : OpensWith l q a b o s h r t k) where
+  done : open_refusal (opening_with o s h) ≡ 0 → r.reply ≡ Ok None
   done z = done_at r.reply x.answer z
 
-  only : r.reply ≡ Done → open_refusal (opening_with o s h) ≡ 0
-  only e = (accepted_is _ none none (sym x.answer ∙ ap reply_of e)).0
+  only : r.reply ≡ Ok None → open_refusal (opening_with o s h) ≡ 0
+  only e = (accepted_is _ None None (sym x.answer ∙ ap reply_of e)).0
 
-  claims : open_refusal (opening_with o s h) ≡ 0 → (cs : List Call) (ns : List (Answer (Option ℕ))) (j : Whole) → Run (with_plan k r.plan) cs ns j
+  claims : open_refusal (opening_with o s h) ≡ 0 → (cs : List Call) (ns : List (Answer (Option ℕ))) (j : Whole)
+      → Run (with_plan k r.plan) cs ns j
       → After (opened (opening_with o s h)) cs ns j (world_after (opened (opening_with o s h)) cs)
   claims z cs ns j c =
       let d = done z in

@@ -1,15 +1,14 @@
 -- Every list of calls on a valid plan is the model's, by induction on the list.
 use Prim.Native.Nat.{ℕ}
 use mathlib.Core.List.{List, ◌∷◌}
-use mathlib.Core.Option.{Option}
+use Rattle.std.specs.Prelude.{Option}
 use mathlib.Core.Path.{◌≡◌, refl, ◌∙◌}
 use Rattle.model.specs.Calls.{Call, locate, next, world_after, answers_along, accept}
 use Rattle.model.specs.World.{World}
 use Rattle.numbers.specs.Refusals.{Answer}
 use Rattle.plan.specs.Calls.{Called, Leaves, Locates as Located}
-use Rattle.plan_record.specs.Plan.{Valid, world_of, reply_of}
+use Rattle.plan_record.specs.Plan.{Valid, world_of, reply_of, Reply}
 use Rattle.plan_record.specs.declared.Outcome.{Outcome}
-use Rattle.plan_record.specs.declared.Reply.{Reply}
 use Rattle.position.specs.Runs.{Whole, with_plan, Run, ends, creates, grows, publishes, drops, caps, locates}
 use Rattle.model.proofs.Steps.{next_cases}
 
@@ -43,7 +42,8 @@ pub left : (h j : Whole) {c : Call} {r : Outcome}
 left h j a = rw (a.extents, a.starts, a.files) a.called
 
 -- a locate leaves the plan
-pub stood : (h : Whole) {k : Whole} {id pos n : ℕ} {cs : List Call} {ns : List (Answer (Option ℕ))} {r : Reply} → Located h.plan id pos n h.starts h.files r
+pub stood : (h : Whole) {k : Whole} {id pos n : ℕ} {cs : List Call} {ns : List (Answer (Option ℕ))} {r : Reply}
+    → Located h.plan id pos n h.starts h.files r
     → ValidIn h → Ran (world_in h) cs ns k → Ran (world_in h) (locate id pos n ∷ cs) (reply_of r ∷ ns) k
 unfolding world_after answers_along accept
 stood h {k} {id} {pos} {n} a v g =

@@ -1,9 +1,8 @@
 -- The theorem's premise is met: an open with two records, of which one has two extents that join and the other an extra one.
-use Rattle.std.specs.Prelude.{ℕ, ◌-◌, List, ◌∷◌, ◌++◌, ◌≡◌, length, replicate}
+use Rattle.std.specs.Prelude.{ℕ, ◌-◌, List, ◌∷◌, ◌++◌, ◌≡◌, length, replicate, []}
 use Rattle.model.specs.Open as model
 use Rattle.model.specs.Opens.{limits, record1, record2, two}
 use Rattle.plan_record.specs.Plan.{blank_plan}
-use Rattle.plan_record.specs.Record.{blank_record}
 use Rattle.plan_record.specs.declared.Record.{Record}
 use Rattle.position.specs.Runs.{Whole, Arguments, opening_with}
 
@@ -13,8 +12,7 @@ file r =
     record {
       number = r.number;
       tag = r.tag;
-      name = r.name ++ replicate (24 - length r.name) 0;
-      name_len = length r.name;
+      name = record { bytes = r.name ++ replicate (24 - length r.name) 0; len = length r.name };
       entry = r.entry;
       header = r.header;
     }
@@ -24,8 +22,7 @@ abbrev pub arguments : Arguments
 arguments =
     record {
       limits = limits 12 262144;
-      records = file record1 ∷ file record2 ∷ replicate 62 blank_record;
-      count = 2;
+      records = file record1 ∷ file record2 ∷ [];
       listed = two.extents;
     }
 

@@ -4,8 +4,7 @@
 -- side stand the model's regions, tags, extents, footprints, published lengths and held bytes, which follow "from open's arguments and the
 -- calls alone, not from the plan's record or answers"; on the other the plan's own answers, its figures for held and free, and its tag
 -- totals, as its functions return them. `position` (proofs/Position) proves it.
-use Rattle.std.specs.Prelude.{ℕ, ◌+◌, ◌-◌, false, List, [], ◌∷◌, ◌≡◌}
-use Rattle.std.proofs.Math.Option.{Option, some}
+use Rattle.std.specs.Prelude.{ℕ, ◌+◌, ◌-◌, false, List, [], ◌∷◌, ◌≡◌, Option, Some, Ok, None}
 use Rattle.model.specs.Calls.{Call, create, grow, publish, drop, cap, locate, known, region_in, header_len, step_len, create_tests, grow_tests, next, world_after, answers_along}
 use Rattle.model.specs.Demand.{Published, byte_at, Keeps}
 use Rattle.model.specs.Open.{open_refusal, opened}
@@ -23,10 +22,8 @@ use Rattle.plan_record.proofs.Plan.free.Statement as free_code
 use Rattle.plan_record.proofs.Plan.held.Statement as held_code
 use Rattle.plan_record.proofs.Plan.logical.Statement as logical_code
 use Rattle.plan_record.proofs.Plan.physical.Statement as physical_code
-use Rattle.plan_record.specs.Plan.{reply_of}
+use Rattle.plan_record.specs.Plan.{reply_of, Reply}
 use Rattle.plan_record.specs.declared.Outcome.{Outcome}
-use Rattle.plan_record.specs.declared.Reply.{Reply}
-use Rattle.plan_record.specs.declared.Reply.TheVariants.{Done}
 use Rattle.position.specs.Runs.{Whole, Loan, Loans, Arguments, OpensWith, opening_with, with_plan, Run, Locates, HeldTold, FreeTold, PhysicalTold, LogicalTold}
 
 -- ---- room
@@ -39,7 +36,7 @@ pub record Room (w : World) (tests : List ℕ) (n : ℕ) (a : Answer (Option ℕ
   -- refused for room: no span is free
   pub only_full : a ≡ refused 22 → (p : ℕ) → FreeSpan w n p → ⊥
   -- it passes every earlier check, and some span is free: it is placed at the lowest
-  pub placed : first tests ≡ 0 → (p : ℕ) → FreeSpan w n p → (b : ℕ) × LeastFree w n b × (a ≡ accepted (some b))
+  pub placed : first tests ≡ 0 → (p : ℕ) → FreeSpan w n p → (b : ℕ) × LeastFree w n b × (a ≡ accepted (Some b))
 
 -- Of each create and grow in a list, with the answers to the list.
 abbrev pub RoomFor : World → Call → Answer (Option ℕ) → Type 0
@@ -62,7 +59,7 @@ pub record After (w₀ : World) (cs : List Call) (ns : List (Answer (Option ℕ)
   -- every answer of the list is the one defined
   pub answers : ns ≡ answers_along w₀ cs
   -- 1. "every published position is located, at the byte of the region's own extents laid end to end"
-  pub located : (l : Loans) (id p : ℕ) (r : Reply) → Published w id p → Locates l h id p 1 r → reply_of r ≡ accepted (some (byte_at w id p))
+  pub located : (l : Loans) (id p : ℕ) (r : Reply) → Published w id p → Locates l h id p 1 r → reply_of r ≡ accepted (Some (byte_at w id p))
   -- 2. "different pairs, different bytes": of region and published position
   pub own : (l m : Loans) (id p jd q : ℕ) (r s : Reply) → Published w id p → Published w jd q → Locates l h id p 1 r → Locates m h jd q 1 s
       → reply_of r ≡ reply_of s → (id ≡ jd) × (p ≡ q)
@@ -98,12 +95,12 @@ pub record Position : Type 2 where
   pub tells_physical : {M : Type 1} → physical_code.statement M
   pub tells_logical : {M : Type 1} → logical_code.statement M
   -- open accepts where the model accepts its arguments, and only there
-  pub accepts : (l : Loans) (a b : Loan) (o : Arguments) (s t : List ℕ) (h k : Whole) (r : Outcome) → OpensWith l a b o s h r t k
-      → open_refusal (opening_with o s h) ≡ 0 → r.reply ≡ Done
-  pub only_then : (l : Loans) (a b : Loan) (o : Arguments) (s t : List ℕ) (h k : Whole) (r : Outcome) → OpensWith l a b o s h r t k
-      → r.reply ≡ Done → open_refusal (opening_with o s h) ≡ 0
+  pub accepts : (l : Loans) (q a b : Loan) (o : Arguments) (s t : List ℕ) (h k : Whole) (r : Outcome) → OpensWith l q a b o s h r t k
+      → open_refusal (opening_with o s h) ≡ 0 → r.reply ≡ Ok None
+  pub only_then : (l : Loans) (q a b : Loan) (o : Arguments) (s t : List ℕ) (h k : Whole) (r : Outcome) → OpensWith l q a b o s h r t k
+      → r.reply ≡ Ok None → open_refusal (opening_with o s h) ≡ 0
   -- the claim about the list
-  pub claim : (l : Loans) (a b : Loan) (o : Arguments) (s t : List ℕ) (h k : Whole) (r : Outcome) → OpensWith l a b o s h r t k
+  pub claim : (l : Loans) (q a b : Loan) (o : Arguments) (s t : List ℕ) (h k : Whole) (r : Outcome) → OpensWith l q a b o s h r t k
       → open_refusal (opening_with o s h) ≡ 0
       → (cs : List Call) (ns : List (Answer (Option ℕ))) (j : Whole) → Run (with_plan k r.plan) cs ns j
       → After (opened (opening_with o s h)) cs ns j (world_after (opened (opening_with o s h)) cs)

@@ -1,6 +1,5 @@
 -- Lists of calls on a plan, over whatever the contracts of the calls let their caller learn.
-use Rattle.std.specs.Prelude.{ℕ, List, [], ◌∷◌}
-use Rattle.std.proofs.Math.Option.{Option}
+use Rattle.std.specs.Prelude.{ℕ, List, [], ◌∷◌, Option}
 use base.Fml.{GName, Lft}
 use Rattle.std.specs.Borrow.{Bor, MutBor}
 use Rattle.model.specs.Calls.{Call, create, grow, publish, drop, cap, locate}
@@ -13,18 +12,17 @@ use Rattle.plan.proofs.drop.Reads as drop_reads
 use Rattle.plan.proofs.grow.Reads as grow_reads
 use Rattle.plan.proofs.locate.Reads as locate_reads
 use Rattle.plan.proofs.publish.Reads as publish_reads
+use Rattle.plan_checks.specs.declared.container.Opening as container
 use Rattle.plan_open.proofs.open.Reads as open_reads
 use Rattle.plan_open.specs.Open.{opening_of}
 use Rattle.plan_record.proofs.Plan.free.Reads as free_reads
 use Rattle.plan_record.proofs.Plan.held.Reads as held_reads
 use Rattle.plan_record.proofs.Plan.logical.Reads as logical_reads
 use Rattle.plan_record.proofs.Plan.physical.Reads as physical_reads
-use Rattle.plan_record.specs.Plan.{reply_of}
+use Rattle.plan_record.specs.Plan.{reply_of, Reply}
 use Rattle.plan_record.specs.declared.Outcome.{Outcome}
 use Rattle.plan_record.specs.declared.Plan.{Plan}
 use Rattle.plan_record.specs.declared.Record.{Record}
-use Rattle.plan_record.specs.declared.Reply.{Reply}
-use Rattle.tagspace.specs.declared.Cap.{Cap}
 
 -- ---- a plan
 
@@ -44,7 +42,7 @@ pub record Loan : Type 0 where
   pub name : GName
 
 -- The references that are passed, with what the list holds: one to write by, and one to read by alone, which has no ghost name.
-abbrev pub show : Loan → List ℕ → Bor (List ℕ)
+abbrev pub show : {A : Type 0} → Loan → List A → Bor (List A)
 show l xs = record { ref_ptr = l.ptr; now = xs }
 
 abbrev pub lend : Loan → List ℕ → MutBor (List ℕ)
@@ -60,28 +58,26 @@ pub record Loans : Type 0 where
 -- What `plan_open::open` is called with, beside the lists of the plan and scratch.
 pub record Arguments : Type 0 where
   pub limits : Limits
-  -- as many as the array has, of which the first `count` are brought
   pub records : List Record
-  pub count : ℕ
   -- the headers' extent lists, one behind the other
   pub listed : List ℕ
 
--- `plan_open::open(limits, records, count, listed, scratch, extents, starts, files)` was called with scratch s and the lists of h, answered
--- r, and left scratch and the lists as they are in t and k.
-abbrev pub OpensWith : Loans → (listed scratch : Loan) → Arguments → (s : List ℕ) → Whole → Outcome → (t : List ℕ) → Whole → Type 0
-OpensWith l a b o s h r t k =
-    open_reads.Learnt (a.lifetime, (b.lifetime, (l.extents.lifetime, (l.starts.lifetime, (l.files.lifetime, tt))))) (
-      o.limits,
-      (o.records, (o.count, (show a o.listed, (lend b s, (lend l.extents h.extents, (lend l.starts h.starts, (lend l.files h.files, tt))))))),
-    )
-    r (
-      o.limits,
-      (o.records, (o.count, (show a o.listed, (lend b t, (lend l.extents k.extents, (lend l.starts k.starts, (lend l.files k.files, tt))))))),
-    )
+-- These, as they are passed: the records and the listed extents are lent for the same time, that of the records.
+abbrev pub given : (records listed : Loan) → Arguments → container.Opening
+given q a o = record { limits = o.limits; records = show q o.records; listed = show a o.listed }
+
+-- `plan_open::open(opening, scratch, extents, starts, files)` was called with scratch s and the lists of h, answered r, and left
+-- scratch and the lists as they are in t and k.
+abbrev pub OpensWith : Loans → (records listed scratch : Loan) → Arguments → (s : List ℕ) → Whole → Outcome → (t : List ℕ) → Whole → Type 0
+OpensWith l q a b o s h r t k =
+    open_reads.Learnt (q.lifetime, (b.lifetime, (l.extents.lifetime, (l.starts.lifetime, (l.files.lifetime, tt)))))
+    (given q a o, (lend b s, (lend l.extents h.extents, (lend l.starts h.starts, (lend l.files h.files, tt)))))
+    r
+    (given q a o, (lend b t, (lend l.extents k.extents, (lend l.starts k.starts, (lend l.files k.files, tt)))))
 
 -- What these arguments say to the model.
 abbrev pub opening_with : Arguments → List ℕ → Whole → Opening
-opening_with o s h = opening_of o.limits o.records o.count o.listed s h.extents h.starts h.files
+opening_with o s h = opening_of o.limits o.records o.listed s h.extents h.starts h.files
 
 -- `plan::create(plan, extents, starts, files, id, tag, name)` was called with h and answered r, and left the lists as they are in k.
 abbrev pub Creates : Loans → Whole → (id tag : ℕ) → List ℕ → Outcome → Whole → Type 0
@@ -111,7 +107,7 @@ Drops l h id r k =
 abbrev pub Publishes : Whole → (id len : ℕ) → Outcome → Type 0
 Publishes h id len r = publish_reads.Learnt tt (h.plan, (id, (len, tt))) r (h.plan, (id, (len, tt)))
 
-abbrev pub Caps : Whole → ℕ → Cap → Outcome → Type 0
+abbrev pub Caps : Whole → ℕ → Option ℕ → Outcome → Type 0
 Caps h tag limit r = cap_reads.Learnt tt (h.plan, (tag, (limit, tt))) r (h.plan, (tag, (limit, tt)))
 
 -- `plan::locate(plan, starts, files, id, pos, n)`
@@ -165,7 +161,7 @@ pub data Run : Whole → List Call → List (Answer (Option ℕ)) → Whole → 
       Run (with_plan j r.plan) cs ns k →
       Run h (drop id ∷ cs) (reply_of r.reply ∷ ns) k
   caps :
-      {h k : Whole} {cs : List Call} {ns : List (Answer (Option ℕ))} (tag : ℕ) (limit : Cap) (r : Outcome) →
+      {h k : Whole} {cs : List Call} {ns : List (Answer (Option ℕ))} (tag : ℕ) (limit : Option ℕ) (r : Outcome) →
       Caps h tag limit r →
       Run (with_plan h r.plan) cs ns k →
       Run h (cap tag limit ∷ cs) (reply_of r.reply ∷ ns) k

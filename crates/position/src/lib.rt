@@ -2,12 +2,11 @@
 #![tactic(auto)]
 
 ghost use Rattle.position.specs.Caller.{Drives};
-ghost use Rattle.plan_open.specs.Open.{opening_of};
+ghost use Rattle.plan_open.specs.Open.{opening_from};
 
-use footprint::Limits;
 use plan::{create, drop, grow, locate, publish};
-use plan_open::open;
-use plan_record::{Plan, Record, Reply};
+use plan_open::{Opening, open};
+use plan_record::{Plan, Reply};
 
 // What each call answered, and the plan as the last one left it.
 #[derive(Clone, Copy)]
@@ -24,10 +23,7 @@ pub struct Driven {
 // Opens a container, creates a region in it, grows it, publishes its first len bytes, locates the
 // position pos and drops it again.
 pub fn drive(
-    limits: Limits,
-    records: [Record; 64],
-    count: usize,
-    listed: &[u64],
+    opening: Opening<'_>,
     scratch: &mut [u64],
     extents: &mut [u64],
     starts: &mut [u64],
@@ -38,11 +34,9 @@ pub fn drive(
     len: u64,
     pos: u64,
 ) -> Driven
-    ensures { Drives (opening_of limits records count listed.now scratch.old extents.old starts.old files.old) id tag name.now len pos extents.new result }
+    ensures { Drives (opening_from opening.entry scratch.old extents.old starts.old files.old) id tag name.now len pos extents.new result }
 {
-    let a = open(
-        limits, records, count, listed, scratch, extents, starts, files,
-    );
+    let a = open(opening, scratch, extents, starts, files);
     let opened = a.reply;
     let first = a.plan;
     let b = create(first, extents, starts, files, id, tag, name);

@@ -1,5 +1,5 @@
 -- Extents joined to a map's runs, one extent after another.
-use Prim.Native.Nat.{ℕ, suc, ◌+◌, ◌-◌, ◌*◌, ◌/◌, ◌≤◌, ◌<◌}
+use Prim.Native.Nat.{ℕ, suc, ◌+◌, ◌-◌, ◌≤◌, ◌<◌}
 use mathlib.Core.List.{List, [], ◌∷◌, ◌++◌, map}
 use mathlib.Core.Path.{◌≡◌, refl, ap, sym, subst, ◌∙◌}
 use native.Mathlib.Omega.{arith}
@@ -8,7 +8,6 @@ use lib.Seq.{take-suc, take_all}
 use borrow.Author.Tests.{eq-eqb, ne_eqb}
 use Rattle.runs.specs.Runs.{Run, run, blank_run, runs_of}
 use Rattle.numbers.specs.Lists.{All, written}
-use Rattle.numbers.specs.Pairs.{pairs}
 use Rattle.numbers.specs.Range.{Range, range, blank, total}
 use Rattle.numbers.specs.Refusals.{each_extent}
 use Rattle.numbers.specs.Sums.{top, sum}
@@ -16,7 +15,6 @@ use Rattle.regionmap.specs.Inner.{Laid}
 use Rattle.regionmap.specs.Map.{passes_top, with_first, file_end, longer, extended_runs}
 use Rattle.runs.proofs.Joining.{fills, same_length}
 use Rattle.numbers.proofs.Lists.{all_at}
-use Rattle.numbers.proofs.Pairs.{length_pairs, pair_in, pair_at}
 use Rattle.numbers.proofs.Sums.{total_one, total_take}
 use Rattle.regionmap.proofs.Bytes.{longer_length}
 use Rattle.regionmap.proofs.Extents.{each_ends, each_whole, runs_skip, runs_none, none_total, runs_first, runs_next}
@@ -81,20 +79,16 @@ with_length (q ∷ rs) r qs e = let l = ap length e in omega arith
 
 -- ---- the loop
 
-abbrev extent : List ℕ → ℕ → Range
-extent xs i = range (get_or xs (2 * i) 0) (get_or xs (2 * i + 1) 0)
-
 -- the extents in front of i are joined: the first run begins at `from`, the last one ends at the position `at` and at the byte `end`
-pub record Building (xs ss₀ ss fs₀ fs : List ℕ) (n from count at end i : ℕ) : Type 0 where
-  pub all : n ≡ length (pairs xs)
-  pub below : i ≤ n
-  pub rooms : (n ≤ length ss₀) × (n ≤ length fs₀)
-  pub inside : All (λ (x : Range). x.offset + x.len ≤ top) (pairs xs)
-  pub whole : total (pairs xs) ≤ top
-  pub sums : at ≡ total (take i (pairs xs))
+pub record Building (xs : List Range) (ss₀ ss fs₀ fs : List ℕ) (from count at end i : ℕ) : Type 0 where
+  pub below : i ≤ length xs
+  pub rooms : (length xs ≤ length ss₀) × (length xs ≤ length fs₀)
+  pub inside : All (λ (x : Range). x.offset + x.len ≤ top) xs
+  pub whole : total xs ≤ top
+  pub sums : at ≡ total (take i xs)
   pub head : Run
   pub rest : List Run
-  pub runs : with_first (runs_of (take i (pairs xs))) ≡ head ∷ rest
+  pub runs : with_first (runs_of (take i xs)) ≡ head ∷ rest
   pub begins : head.file ≡ from
   pub ends : file_end (head ∷ rest) ≡ end
   pub later : length rest ≡ count
@@ -102,17 +96,15 @@ pub record Building (xs ss₀ ss fs₀ fs : List ℕ) (n from count at end i : �
   pub starts : ss ≡ written (map (λ (r : Run). r.start) rest) ss₀
   pub files : fs ≡ written (map (λ (r : Run). r.file) rest) fs₀
 
-module _ (xs ss₀ fs₀ : List ℕ) where
-  pub build_begins : (each_extent passes_top 0 (pairs xs) ≡ 0) × (length (pairs xs) ≤ length ss₀) × (length (pairs xs) ≤ length fs₀) → Building xs ss₀ ss₀ fs₀ fs₀ (length xs / 2) 0 0 0 0 0
+module _ (xs : List Range) (ss₀ fs₀ : List ℕ) where
+  pub build_begins : (each_extent passes_top 0 xs ≡ 0) × (length xs ≤ length ss₀) × (length xs ≤ length fs₀) → Building xs ss₀ ss₀ fs₀ fs₀ 0 0 0 0 0
   unfolding sum file_end
   build_begins p =
-      let l = length_pairs xs in
       record {
-        all = sym l;
         below = omega arith;
-        rooms = (omega (arith, p.1), omega (arith, p.2));
-        inside = each_ends (pairs xs) p.0;
-        whole = each_whole (pairs xs) p.0;
+        rooms = (p.1, p.2);
+        inside = each_ends xs p.0;
+        whole = each_whole xs p.0;
         sums = refl;
         head = blank_run;
         rest = [];
@@ -125,7 +117,7 @@ module _ (xs ss₀ fs₀ : List ℕ) where
         files = refl;
       }
 
-module _ {xs ss₀ ss fs₀ fs : List ℕ} {n from count at end i : ℕ} (g : Building xs ss₀ ss fs₀ fs n from count at end i) where
+module _ {xs : List Range} {ss₀ ss fs₀ fs : List ℕ} {from count at end i : ℕ} (g : Building xs ss₀ ss fs₀ fs from count at end i) where
   pub build_lengths : (length ss ≡ length ss₀) × (length fs ≡ length fs₀)
   build_lengths =
       let r = g.rooms in (
@@ -133,32 +125,23 @@ module _ {xs ss₀ ss fs₀ fs : List ℕ} {n from count at end i : ℕ} (g : Bu
         same_length (λ (q : Run). q.file) g.rest fs₀ fs count g.later g.files (omega (arith, r.1, g.few, g.below)),
       )
 
-  module _ (l : i < n) where
+  module _ {o n : ℕ} (inner : i < length xs) (x_at : get_or xs i blank ≡ range o n) where
     abbrev x : Range
-    x = extent xs i
+    x = range o n
 
     abbrev ys : List Range
-    ys = take i (pairs xs)
+    ys = take i xs
 
-    inner : i < length (pairs xs)
-    inner = omega (arith, g.all)
-
-    pub build_in : 2 * i + 1 < length xs
-    build_in = pair_in xs i inner
-
-    x_at : get_or (pairs xs) i blank ≡ x
-    x_at = pair_at xs i build_in
-
-    next : take (i + 1) (pairs xs) ≡ ys ++ (x ∷ [])
-    next = let o : i + 1 ≡ suc i = omega arith in rw o (take-suc (pairs xs) i blank inner ∙ rw x_at)
+    next : take (i + 1) xs ≡ ys ++ (x ∷ [])
+    next = let o : i + 1 ≡ suc i = omega arith in rw o (take-suc xs i blank inner ∙ rw x_at)
 
     -- no sum passes
     pub build_byte : x.offset + x.len ≤ top
-    build_byte = let a = all_at (λ (y : Range). y.offset + y.len ≤ top) (pairs xs) i blank g.inside inner in subst (λ (y : Range). y.offset + y.len ≤ top) x_at a
+    build_byte = let a = all_at (λ (y : Range). y.offset + y.len ≤ top) xs i blank g.inside inner in subst (λ (y : Range). y.offset + y.len ≤ top) x_at a
 
     pub build_sum : at + x.len ≤ top
     build_sum =
-        let t = total_take (i + 1) (pairs xs) in
+        let t = total_take (i + 1) xs in
         let e = ap total next ∙ total_one ys x in
         omega (arith, g.whole, g.sums, t, e)
 
@@ -168,13 +151,12 @@ module _ {xs ss₀ ss fs₀ fs : List ℕ} {n from count at end i : ℕ} (g : Bu
         let e = build_lengths in
         (omega (arith, r.0, e.0, g.few), omega (arith, r.1, e.1, g.few))
 
-    sums_on : at + x.len ≡ total (take (i + 1) (pairs xs))
+    sums_on : at + x.len ≡ total (take (i + 1) xs)
     sums_on = let e = ap total next ∙ total_one ys x in omega (arith, g.sums, e)
 
-    pub build_skips : x.len ≡ 0 → Building xs ss₀ ss fs₀ fs n from count at end (i + 1)
+    pub build_skips : x.len ≡ 0 → Building xs ss₀ ss fs₀ fs from count at end (i + 1)
     build_skips z =
         record {
-          all = g.all;
           below = omega arith;
           rooms = g.rooms;
           inside = g.inside;
@@ -195,13 +177,12 @@ module _ {xs ss₀ ss fs₀ fs : List ℕ} {n from count at end i : ℕ} (g : Bu
       long : 0 < x.len
       long = omega (arith, d)
 
-      pub build_first : at ≡ 0 → Building xs ss₀ ss fs₀ fs n x.offset count x.len (x.offset + x.len) (i + 1)
+      pub build_first : at ≡ 0 → Building xs ss₀ ss fs₀ fs x.offset count x.len (x.offset + x.len) (i + 1)
       unfolding file_end
       build_first z =
           let t : total ys ≡ 0 = sym g.sums ∙ z in
           let e : g.rest ≡ [] = with_rest (runs_of ys) g.head g.rest g.runs ∙ ap (drop 1) (runs_none ys t) in
           record {
-            all = g.all;
             below = omega arith;
             rooms = g.rooms;
             inside = g.inside;
@@ -225,19 +206,18 @@ module _ {xs ss₀ ss fs₀ fs : List ℕ} {n from count at end i : ℕ} (g : Bu
         runs_are : runs_of ys ≡ g.head ∷ g.rest
         runs_are = sym (with_some (runs_of ys) some) ∙ g.runs
 
-        extends : runs_of (take (i + 1) (pairs xs)) ≡ extended_runs (g.head ∷ g.rest) at x.offset x.len
+        extends : runs_of (take (i + 1) xs) ≡ extended_runs (g.head ∷ g.rest) at x.offset x.len
         extends =
             ap runs_of next
             ∙ runs_next ys x long (omega (arith, g.sums, z)) (omega (arith, g.sums, build_sum)) (omega (arith, build_byte))
             ∙ rw (runs_are, ← g.sums)
 
-        pub build_joins : x.offset ≡ end → Building xs ss₀ ss fs₀ fs n from count (at + x.len) (end + x.len) (i + 1)
+        pub build_joins : x.offset ≡ end → Building xs ss₀ ss fs₀ fs from count (at + x.len) (end + x.len) (i + 1)
         unfolding extended_runs
         build_joins j =
             let w = longer_parts x.len g.head g.rest in
-            let e : runs_of (take (i + 1) (pairs xs)) ≡ w.head ∷ w.rest = extends ∙ simp (eq-eqb _ _ (g.ends ∙ sym j)) w.is in
+            let e : runs_of (take (i + 1) xs) ≡ w.head ∷ w.rest = extends ∙ simp (eq-eqb _ _ (g.ends ∙ sym j)) w.is in
             record {
-              all = g.all;
               below = omega arith;
               rooms = g.rooms;
               inside = g.inside;
@@ -254,15 +234,14 @@ module _ {xs ss₀ ss fs₀ fs : List ℕ} {n from count at end i : ℕ} (g : Bu
               files = g.files ∙ ap (λ (q : List ℕ). written q fs₀) (sym w.files);
             }
 
-        pub build_adds : (x.offset ≡ end → ⊥) → Building xs ss₀ (set ss count at) fs₀ (set fs count x.offset) n from (count + 1) (at + x.len) (x.offset + x.len) (i + 1)
+        pub build_adds : (x.offset ≡ end → ⊥) → Building xs ss₀ (set ss count at) fs₀ (set fs count x.offset) from (count + 1) (at + x.len) (x.offset + x.len) (i + 1)
         unfolding extended_runs
         build_adds j =
             let r = run at x.offset x.len in
             let m = g.rooms in
             let ne : file_end (g.head ∷ g.rest) ≡ x.offset → ⊥ = λ q. j (sym q ∙ g.ends) in
-            let e : runs_of (take (i + 1) (pairs xs)) ≡ g.head ∷ (g.rest ++ (r ∷ [])) = extends ∙ simp (ne_eqb _ _ ne) in
+            let e : runs_of (take (i + 1) xs) ≡ g.head ∷ (g.rest ++ (r ∷ [])) = extends ∙ simp (ne_eqb _ _ ne) in
             record {
-              all = g.all;
               below = omega arith;
               rooms = g.rooms;
               inside = g.inside;
@@ -279,14 +258,14 @@ module _ {xs ss₀ ss fs₀ fs : List ℕ} {n from count at end i : ℕ} (g : Bu
               files = fills (λ (q : Run). q.file) g.rest fs₀ fs count g.later g.files r (omega (arith, m.1, g.few));
             }
 
-  pub build_ends : n ≤ i → Laid (pairs xs) ss₀ ss fs₀ fs from count
+  pub build_ends : length xs ≤ i → Laid xs ss₀ ss fs₀ fs from count
   build_ends l =
-      let t = take_all i (pairs xs) (omega (arith, g.all)) in
-      let e : with_first (runs_of (pairs xs)) ≡ g.head ∷ g.rest = ap (λ (q : List Range). with_first (runs_of q)) (sym t) ∙ g.runs in
-      let w = with_rest (runs_of (pairs xs)) g.head g.rest e in
+      let t = take_all i xs l in
+      let e : with_first (runs_of xs) ≡ g.head ∷ g.rest = ap (λ (q : List Range). with_first (runs_of q)) (sym t) ∙ g.runs in
+      let w = with_rest (runs_of xs) g.head g.rest e in
       record {
         from = sym (rw e g.begins);
-        later = sym g.later ∙ with_length (runs_of (pairs xs)) g.head g.rest e;
+        later = sym g.later ∙ with_length (runs_of xs) g.head g.rest e;
         starts = g.starts ∙ ap (λ (q : List Run). written (map (λ (r : Run). r.start) q) ss₀) w;
         files = g.files ∙ ap (λ (q : List Run). written (map (λ (r : Run). r.file) q) fs₀) w;
       }

@@ -1,4 +1,6 @@
 -- A map extended: the last run longer, or one run more in the next slot of the lists.
+use Rattle.numbers.specs.declared.refusal.Refusal.{Refusal}
+use Rattle.std.specs.Prelude.{Ok, Err}
 use Prim.Native.Nat.{ℕ, suc, ◌+◌, ◌≤◌, ◌<◌}
 use mathlib.Core.Bool.{true, false, ◌||◌}
 use mathlib.Core.List.{List, ◌∷◌}
@@ -9,10 +11,9 @@ use lib.ListN.{length, get_or, take, set, length-set}
 use lib.Seq.{length-take-le, take-suc-set}
 use borrow.Author.Tests.{lt-ltb, le-ltb}
 use Rattle.numbers.specs.Range.{range}
-use Rattle.numbers.specs.Refusals.{first, refuse}
+use Rattle.numbers.specs.Refusals.{first, refuse, refusal_number}
 use Rattle.numbers.specs.Sums.{top}
 use Rattle.regionmap.specs.Map.{Placement, placement_of, Sound, Valid, too_few, passes_top, file_end, extended_runs, extended, extend_refusal, Extended}
-use Rattle.regionmap.specs.declared.Mapped.TheVariants.{Map, Refused}
 use Rattle.regionmap.specs.declared.RegionMap.{RegionMap}
 use Rattle.regionmap.proofs.Bytes.{extended_laid, extended_inside, extended_length}
 use Rattle.regionmap.proofs.Lookup.{Enough}
@@ -66,8 +67,8 @@ module _ (m : RegionMap) (f n : ℕ) (ss fs : List ℕ) where
   abbrev p : Placement
   p = placement_of m ss fs
 
-  pub extend_refused : (k : ℕ) → (k ≡ 0 → ⊥) → (Valid m ss fs → k ≡ extend_refusal p f n ss fs) → Extended m f n ss ss fs fs (Refused k)
-  extend_refused k d h = record { answer = λ v. refuses k _ (extended p f n) ss fs (h v) d; valid = λ v. tt; starts = refl; files = refl }
+  pub extend_refused : (r : Refusal) → (Valid m ss fs → refusal_number r ≡ extend_refusal p f n ss fs) → Extended m f n ss ss fs fs (Err r)
+  extend_refused r h = record { answer = λ v. refuses r _ (extended p f n) ss fs (h v); valid = λ v. tt; starts = refl; files = refl }
 
   module _
       (e : Enough m ss fs) (b : (eqb n 0 || passes_top (range f n)) ≡ false) (c : ltb top (m.capacity + n) ≡ false)
@@ -96,7 +97,7 @@ module _ (m : RegionMap) (f n : ℕ) (ss fs : List ℕ) where
       unfolding extended_runs
       longer_runs v = simp d (rw (means_longer m.capacity n 0 m.first (take m.count ss) (take m.count fs) same (last_below v)))
 
-      pub extend_joins : Extended m f n ss ss fs fs (Map joined_map)
+      pub extend_joins : Extended m f n ss ss fs fs (Ok joined_map)
       extend_joins =
           record {
             answer = λ v. accepts _ _ (extended p f n) (joining p f n ss fs e.places b c d) (longer_runs v);
@@ -123,7 +124,7 @@ module _ (m : RegionMap) (f n : ℕ) (ss fs : List ℕ) where
           let o : m.count + 1 ≡ suc m.count = omega arith in
           simp d (rw (o, take-suc-set ss m.count m.capacity hs, take-suc-set fs m.count f hf, means_new m.capacity n 0 m.first f (take m.count ss) (take m.count fs) same))
 
-      pub extend_takes : Extended m f n ss (set ss m.count m.capacity) fs (set fs m.count f) (Map longer_map)
+      pub extend_takes : Extended m f n ss (set ss m.count m.capacity) fs (set fs m.count f) (Ok longer_map)
       extend_takes =
           record {
             answer = λ v. accepts _ _ (extended p f n) (taking p f n ss fs e.places b c d (omega (arith, some))) more_runs;

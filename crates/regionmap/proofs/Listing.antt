@@ -6,8 +6,8 @@ use mathlib.Core.Path.{◌≡◌, refl, ap, sym, ◌∙◌}
 use native.Mathlib.Omega.{arith}
 use lib.ListN.{length, get_or, take, drop, set, length-append, length-map, drop_of_length-le}
 use lib.Seq.{drop-cons, append_snoc, get_or-take, length-take-le}
-use Rattle.runs.specs.Runs.{Run, run, count_of}
-use Rattle.runs.specs.declared.RunCount.TheVariants.{Runs, Refused}
+use Rattle.runs.specs.Runs.{Run, run}
+use Rattle.numbers.specs.Refusals.{accepted, refused}
 use Rattle.numbers.specs.Lists.{written}
 use Rattle.numbers.specs.Pairs.{pairs, flat}
 use Rattle.numbers.specs.Range.{range}
@@ -80,18 +80,19 @@ module _ {m : RegionMap} {ss fs out₀ out : List ℕ} {start file i : ℕ} (g :
       }
 
   module _ (h : m.count ≤ i) where
-    pub list_ends : set (set out (2 * i) file) (2 * i + 1) (m.capacity - start) ≡ written (flat (ranges_of (placement_of m ss fs).runs)) out₀
+    pub list_ends : set (set out (2 * m.count) file) (2 * m.count + 1) (m.capacity - start) ≡ written (flat (ranges_of (placement_of m ss fs).runs)) out₀
     unfolding runs_to
     list_ends =
         let n = drop_of_length-le (take m.count ss) {i = i} (rw (length-take-le m.count ss g.enough.0) h) in
         let e : (placement_of m ss fs).runs ≡ g.done ++ (run start file (m.capacity - start) ∷ []) = g.rest ∙ rw n in
-        writes (m.capacity - start) ∙ ap (λ (l : List Run). written (flat (ranges_of l)) out₀) (sym e)
+        let k : m.count ≡ i = omega (arith, g.below) in
+        rw k (writes (m.capacity - start)) ∙ ap (λ (l : List Run). written (flat (ranges_of l)) out₀) (sym e)
 
 -- what `runs` answers
 module _ (m : RegionMap) (ss fs out₀ : List ℕ) where
-  pub list_refused : runs_fail m ss fs out₀ ≡ true → Written m ss fs out₀ out₀ (count_of (Refused 1))
+  pub list_refused : runs_fail m ss fs out₀ ≡ true → Written m ss fs out₀ out₀ (refused 1)
   list_refused e = record { answer = sym (one_fails 1 _ _ (omega arith) e); slots = simp e }
 
-  pub list_written : runs_fail m ss fs out₀ ≡ false → Enough m ss fs → (out : List ℕ) → out ≡ written (flat (ranges_of (placement_of m ss fs).runs)) out₀ → Written m ss fs out₀ out (count_of (Runs (m.count + 1)))
+  pub list_written : runs_fail m ss fs out₀ ≡ false → Enough m ss fs → (out : List ℕ) → out ≡ written (flat (ranges_of (placement_of m ss fs).runs)) out₀ → Written m ss fs out₀ out (accepted (m.count + 1))
   list_written f e out w =
       record { answer = ap accepted (sym (runs_count m ss fs e.starts e.files)) ∙ sym (one_passes 1 _ _ f); slots = simp f w }

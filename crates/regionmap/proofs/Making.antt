@@ -1,4 +1,7 @@
 -- The map of a list of extents: its runs in the record and the lists.
+use Rattle.numbers.proofs.Refusals.{reason_above}
+use Rattle.numbers.specs.declared.refusal.Refusal.{Refusal}
+use Rattle.std.specs.Prelude.{Ok, Err}
 use Prim.Native.Nat.{ℕ, ◌+◌, ◌-◌, ◌≤◌, ◌<◌}
 use mathlib.Core.Bool.{true, false}
 use mathlib.Core.List.{List, [], ◌∷◌, map}
@@ -11,11 +14,10 @@ use Rattle.runs.specs.Runs.{Run, blank_run, runs_of}
 use Rattle.numbers.specs.Lists.{All, written}
 use Rattle.numbers.specs.Pairs.{pairs}
 use Rattle.numbers.specs.Range.{total}
-use Rattle.numbers.specs.Refusals.{first, refuse, each_extent}
+use Rattle.numbers.specs.Refusals.{first, refuse, each_extent, refusal_number}
 use Rattle.numbers.specs.Sums.{top}
 use Rattle.regionmap.specs.Inner.{Laid}
 use Rattle.regionmap.specs.Map.{runs_to, placement_of, EndToEnd, Sound, limit, extents_fail, passes_top, from_refusal, with_first, placed, Made}
-use Rattle.regionmap.specs.declared.Mapped.TheVariants.{Map, Refused}
 use Rattle.regionmap.specs.declared.RegionMap.{RegionMap}
 use Rattle.runs.proofs.Bytes.{runs_inside}
 use Rattle.regionmap.proofs.Extents.{each_ends, each_whole, runs_laid, runs_few}
@@ -74,10 +76,11 @@ module _ (rs : List Run) (p : Run → ℕ) where
       (ap (take n) w ∙ take_at ws (drop (length ws) s₀) n (later_length ∙ sym e), rw w (rw (length-append ws (drop (length ws) s₀), later_length) (omega arith)))
 
 module _ (xs : List ℕ) (len : ℕ) (ss₀ fs₀ : List ℕ) where
-  pub made_refused : (k : ℕ) → (k ≡ 0 → ⊥) → k ≡ from_refusal xs len ss₀ fs₀ → Made xs len ss₀ ss₀ fs₀ fs₀ (Refused k)
-  made_refused k d e =
+  pub made_refused : (r : Refusal) → refusal_number r ≡ from_refusal xs len ss₀ fs₀ → Made xs len ss₀ ss₀ fs₀ fs₀ (Err r)
+  made_refused r e =
+      let d : refusal_number r ≡ 0 → ⊥ = λ z. let p = reason_above r in absurd (omega arith) in
       record {
-        answer = refuses k _ (placed (pairs xs) len) ss₀ fs₀ e d;
+        answer = refuses r _ (placed (pairs xs) len) ss₀ fs₀ e;
         starts = rw (← e) (simp (ne_eqb _ _ d));
         files = rw (← e) (simp (ne_eqb _ _ d));
         valid = tt;
@@ -111,7 +114,7 @@ module _ (xs : List ℕ) (len : ℕ) (ss₀ fs₀ : List ℕ) where
       made_means : placement_of made_map ss fs ≡ placed (pairs xs) len
       made_means = λ i. record { runs = made_runs i; capacity = s i; len = len; room = l.later i }
 
-      pub made : Made xs len ss₀ ss fs₀ fs (Map made_map)
+      pub made : Made xs len ss₀ ss fs₀ fs (Ok made_map)
       made =
           let z = from_none xs len ss₀ fs₀ a b c in
           record {

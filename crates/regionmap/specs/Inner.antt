@@ -1,15 +1,16 @@
 -- What the steps of the map's calls do; no public call promises anything by these.
-use Rattle.std.specs.Prelude.{ℕ, ◌-◌, ◌≤◌, ◌<◌, List, map, ◌≡◌, length, get_or, drop}
+use Rattle.std.specs.Prelude.{ℕ, ◌-◌, ◌≤◌, ◌<◌, List, map, ◌≡◌, length, get_or, drop, Result, Ok, Err}
 use Rattle.runs.specs.Runs.{Run, blank_run, runs_of}
 use Rattle.numbers.specs.Lists.{written}
 use Rattle.numbers.specs.Range.{Range, total}
-use Rattle.numbers.specs.Refusals.{each_extent}
+use Rattle.numbers.specs.Refusals.{each_extent, refusal_number}
+use Rattle.numbers.specs.declared.refusal.Refusal.{Refusal}
 use Rattle.regionmap.specs.Map.{passes_top, with_first}
 
--- Refusals 11 and 12 of extents, and their length together where there is none.
-pub record Measured (xs : List Range) (refusal bytes : ℕ) : Type 0 where
-  pub number : refusal ≡ each_extent passes_top 0 xs
-  pub sum : refusal ≡ 0 → bytes ≡ total xs
+-- The length of extents together, or their refusal, 11 or 12.
+abbrev pub Measured : List Range → Result ℕ Refusal → Type 0
+Measured xs (Ok bytes) = (each_extent passes_top 0 xs ≡ 0) × (bytes ≡ total xs)
+Measured xs (Err e) = refusal_number e ≡ each_extent passes_top 0 xs
 
 -- The runs of extents: the file offset of the first, and the later ones, count of them, in two lists.
 pub record Laid (xs : List Range) (ss₀ ss fs₀ fs : List ℕ) (first count : ℕ) : Type 0 where

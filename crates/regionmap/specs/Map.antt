@@ -1,16 +1,13 @@
 -- Document 01, "regionmap.rs": what a region's map means, and what each call on it answers.
-use Rattle.std.specs.Prelude.{ℕ, ◌+◌, ◌-◌, ◌≤◌, max, Bool, false, cond, not, ◌&&◌, ◌||◌, List, [], ◌∷◌, ◌++◌, map, ◌⊎◌, ◌≡◌, ltb, leb, eqb, length, take, drop, set}
+use Rattle.std.specs.Prelude.{ℕ, ◌+◌, ◌-◌, ◌≤◌, max, Bool, false, cond, not, ◌&&◌, ◌||◌, List, [], ◌∷◌, ◌++◌, map, ◌⊎◌, ◌≡◌, ltb, leb, eqb, length, take, drop, set, Result, Ok, Err}
 use Rattle.runs.specs.Runs.{Run, run, blank_run, runs_of, run_byte}
 use Rattle.numbers.specs.Lists.{All, list_after}
 use Rattle.numbers.specs.Pairs.{is_odd, pairs, flat}
 use Rattle.numbers.specs.Range.{Range, range, total}
-use Rattle.numbers.specs.Refusals.{refuse, first, Answer, accepted, refused, answer, each_extent}
+use Rattle.numbers.specs.Refusals.{refuse, first, Answer, accepted, refused, answer, refusal_number, told, each_extent}
 use Rattle.numbers.specs.Sums.{top}
-use Rattle.regionmap.specs.declared.Located.{Located}
-use Rattle.regionmap.specs.declared.Mapped.{Mapped}
-use Rattle.regionmap.specs.declared.Mapped.TheVariants.{Map, Refused}
 use Rattle.regionmap.specs.declared.RegionMap.{RegionMap}
-use Rattle.regionmap.specs.declared.Located.TheVariants as located
+use Rattle.numbers.specs.declared.refusal.Refusal.{Refusal}
 
 -- ---- what a map means
 
@@ -65,14 +62,14 @@ pub record Valid (m : RegionMap) (ss fs : List ℕ) : Type 0 where
 -- ---- answers
 
 -- The placement of the map handed back, or document 01's number.
-abbrev pub outcome_of : Mapped → List ℕ → List ℕ → Answer Placement
-outcome_of (Map m) ss fs = accepted (placement_of m ss fs)
-outcome_of (Refused n) ss fs = refused n
+abbrev pub outcome_of : Result RegionMap Refusal → List ℕ → List ℕ → Answer Placement
+outcome_of (Ok m) ss fs = accepted (placement_of m ss fs)
+outcome_of (Err e) ss fs = refused (refusal_number e)
 
 -- The map that is handed back, if one is, is valid.
-abbrev pub HandsValid : Mapped → List ℕ → List ℕ → Type 0
-HandsValid (Map m) ss fs = Valid m ss fs
-HandsValid (Refused n) ss fs = Unit {0}
+abbrev pub HandsValid : Result RegionMap Refusal → List ℕ → List ℕ → Type 0
+HandsValid (Ok m) ss fs = Valid m ss fs
+HandsValid (Err e) ss fs = Unit {0}
 
 -- 1. "fewer places than: .. extents or room for a map's runs"
 unfoldable pub too_few : ℕ → List ℕ → List ℕ → Bool
@@ -105,7 +102,7 @@ abbrev pub placed : List Range → ℕ → Placement
 placed xs n = record { runs = with_first (runs_of xs); capacity = total xs; len = n; room = length (runs_of xs) - 1 }
 
 -- What `from_extents` promises: its answer, every slot of the two lists, and a valid map.
-pub record Made (xs : List ℕ) (len : ℕ) (ss₀ ss fs₀ fs : List ℕ) (r : Mapped) : Type 0 where
+pub record Made (xs : List ℕ) (len : ℕ) (ss₀ ss fs₀ fs : List ℕ) (r : Result RegionMap Refusal) : Type 0 where
   pub answer : outcome_of r ss fs ≡ answer (from_refusal xs len ss₀ fs₀) (placed (pairs xs) len)
   pub starts : ss ≡ list_after (not (eqb (from_refusal xs len ss₀ fs₀) 0)) (map (λ (q : Run). q.start) (drop 1 (runs_of (pairs xs)))) ss₀
   pub files : fs ≡ list_after (not (eqb (from_refusal xs len ss₀ fs₀) 0)) (map (λ (q : Run). q.file) (drop 1 (runs_of (pairs xs)))) fs₀
@@ -122,7 +119,7 @@ abbrev pub with_room : Placement → ℕ → Placement
 with_room m n = record { runs = m.runs; capacity = m.capacity; len = m.len; room = max m.room n }
 
 -- What `with_room` promises of any record; it only reads the lists.
-pub record Roomed (m : RegionMap) (n : ℕ) (ss fs : List ℕ) (r : Mapped) : Type 0 where
+pub record Roomed (m : RegionMap) (n : ℕ) (ss fs : List ℕ) (r : Result RegionMap Refusal) : Type 0 where
   pub answer : outcome_of r ss fs ≡ answer (room_refusal (placement_of m ss fs) n ss fs) (with_room (placement_of m ss fs) n)
   pub valid : Valid m ss fs → HandsValid r ss fs
 
@@ -131,7 +128,7 @@ abbrev pub published : Placement → ℕ → Placement
 published m n = record { runs = m.runs; capacity = m.capacity; len = max m.len n; room = m.room }
 
 -- What `publish_len` promises of any record, with whatever lists hold its runs; 23 is "A .. length .. passes the .. capacity".
-pub record Published (m : RegionMap) (n : ℕ) (r : Mapped) : Type 0 where
+pub record Published (m : RegionMap) (n : ℕ) (r : Result RegionMap Refusal) : Type 0 where
   pub answer : (ss fs : List ℕ) → outcome_of r ss fs ≡ answer (refuse 23 (ltb m.capacity n)) (published (placement_of m ss fs) n)
   pub valid : (ss fs : List ℕ) → Valid m ss fs → HandsValid r ss fs
 
@@ -166,12 +163,12 @@ extend_refusal m f n ss fs =
     refuse 19 (not (eqb (file_end m.runs) f) && ltb m.room (length m.runs)) ∷ [])
 
 -- The map that is handed back has a run more.
-abbrev pub takes_place : RegionMap → Mapped → Bool
-takes_place m (Map m') = ltb m.count m'.count
-takes_place m (Refused n) = false
+abbrev pub takes_place : RegionMap → Result RegionMap Refusal → Bool
+takes_place m (Ok m') = ltb m.count m'.count
+takes_place m (Err e) = false
 
 -- What `extend` promises. Of any record: no slot changes but the one that a new run takes, which gets its start and file offset.
-pub record Extended (m : RegionMap) (f n : ℕ) (ss₀ ss fs₀ fs : List ℕ) (r : Mapped) : Type 0 where
+pub record Extended (m : RegionMap) (f n : ℕ) (ss₀ ss fs₀ fs : List ℕ) (r : Result RegionMap Refusal) : Type 0 where
   pub answer : Valid m ss₀ fs₀ → outcome_of r ss fs ≡ answer (extend_refusal (placement_of m ss₀ fs₀) f n ss₀ fs₀) (extended (placement_of m ss₀ fs₀) f n)
   pub valid : Valid m ss₀ fs₀ → HandsValid r ss fs
   pub starts : ss ≡ cond (takes_place m r) (set ss₀ m.count m.capacity) ss₀
@@ -199,18 +196,13 @@ locate_refusal m p n ss fs =
     refuse 23 (ltb m.len (p + n)) ∷
     refuse 24 (ltb ((run_of m.runs p).start + (run_of m.runs p).len) (p + n)) ∷ [])
 
--- The byte of a range's first position, or document 01's number.
-abbrev pub place_of : Located → Answer ℕ
-place_of (located.At b) = accepted b
-place_of (located.Refused n) = refused n
-
 -- What `locate` answers.
 abbrev pub locate_of : Placement → ℕ → ℕ → List ℕ → List ℕ → Answer ℕ
 locate_of m p n ss fs = answer (locate_refusal m p n ss fs) (byte_at m p)
 
 -- What `locate` promises of every map that a call handed back.
-pub record Answered (m : RegionMap) (p n : ℕ) (ss fs : List ℕ) (r : Located) : Type 0 where
-  pub answer : Valid m ss fs → place_of r ≡ locate_of (placement_of m ss fs) p n ss fs
+pub record Answered (m : RegionMap) (p n : ℕ) (ss fs : List ℕ) (r : Result ℕ Refusal) : Type 0 where
+  pub answer : Valid m ss fs → told r ≡ locate_of (placement_of m ss fs) p n ss fs
 
 -- ---- runs
 

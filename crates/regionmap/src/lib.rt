@@ -6,22 +6,22 @@ mod build;
 mod list;
 mod search;
 
-ghost use Rattle.std.specs.Prelude.{◌≡◌, ◌||◌, ◌+◌, ◌≤◌, max, ltb, eqb, length};
-ghost use Rattle.runs.specs.Runs.{count_of};
+ghost use Rattle.std.specs.Prelude.{◌≡◌, ◌||◌, ◌+◌, ◌≤◌, ltb, eqb, length};
+ghost use Rattle.numbers.specs.Refusals.{told};
 ghost use Rattle.regionmap.specs.Inner.{RunEnd};
 ghost use Rattle.regionmap.specs.Map.{Made, Roomed, Published, Extended, Answered, Written, placement_of, file_end};
 
 use build::{lay, measure};
 use list::list_runs;
-use numbers::{add_stop, passes, sub_stop};
-use runs::RunCount;
+use numbers::{Refusal, pairs_of, passes};
 use search::find;
 
 // Most extents of a map, and most room.
 const MOST: usize = 4084;
 
 // A region's data placement. Its runs after the first stand in two lists that its holder lends to
-// each call: their starts and their file offsets.
+// each call: their starts and their file offsets. They are lent one by one, and inner functions ask for
+// their lengths: of `&mut` lists in a struct no contract says what they hold when the call ends.
 #[derive(Clone, Copy)]
 pub struct RegionMap {
     // The file offset of the first run.
@@ -30,24 +30,10 @@ pub struct RegionMap {
     pub len: u64,
     // The length of all runs together.
     pub capacity: u64,
-    // The runs after the first.
+    // The runs after the first; the lists may be longer.
     pub count: usize,
     // The most runs after the first.
     pub room: usize,
-}
-
-// A map, or document 01's refusal.
-#[derive(Clone, Copy)]
-pub enum Mapped {
-    Map(RegionMap),
-    Refused(u64),
-}
-
-// The file byte of a position, or document 01's refusal.
-#[derive(Clone, Copy)]
-pub enum Located {
-    At(u64),
-    Refused(u64),
 }
 
 // Whether a list of starts or of file offsets has fewer than n places.
@@ -58,15 +44,6 @@ fn too_few(n: usize, starts: usize, files: usize) -> bool
         return true;
     }
     files < n
-}
-
-fn higher(a: usize, b: usize) -> usize
-    ensures { result ≡ max a b }
-{
-    if a < b {
-        return b;
-    }
-    a
 }
 
 // Whether a run of len bytes at the byte at ends at file.
@@ -81,64 +58,57 @@ fn meets(at: u64, len: u64, file: u64) -> bool
 
 impl RegionMap {
     // The map of extents, of which the first len bytes are data.
-    pub fn from_extents(extents: &[u64], len: u64, starts: &mut [u64], files: &mut [u64]) -> Mapped
+    pub fn from_extents(
+        extents: &[u64],
+        len: u64,
+        starts: &mut [u64],
+        files: &mut [u64],
+    ) -> Result<RegionMap, Refusal>
         ensures { Made extents.now len starts.old starts.new files.old files.new result }
     {
-        if extents.len() % 2 != 0 {
-            return Mapped::Refused(1);
+        let pairs = pairs_of(extents)?;
+        if pairs.len() > MOST || too_few(pairs.len(), starts.len(), files.len()) {
+            return Err(Refusal::Lists);
         }
-        let n = extents.len() / 2;
-        if n > MOST {
-            return Mapped::Refused(1);
+        let capacity = measure(pairs)?;
+        if len > capacity {
+            return Err(Refusal::Past);
         }
-        if too_few(n, starts.len(), files.len()) {
-            return Mapped::Refused(1);
-        }
-        let all = measure(extents);
-        if all.refusal != 0 {
-            return Mapped::Refused(all.refusal);
-        }
-        if len > all.bytes {
-            return Mapped::Refused(23);
-        }
-        let laid = lay(extents, starts, files);
-        Mapped::Map(RegionMap {
+        let laid = lay(pairs, starts, files);
+        Ok(RegionMap {
             first: laid.first,
             len,
-            capacity: all.bytes,
+            capacity,
             count: laid.count,
             room: laid.count,
         })
     }
 
     // The map with room for so many runs after the first, or more where it has more.
-    pub fn with_room(self, room: usize, starts: &[u64], files: &[u64]) -> Mapped
+    pub fn with_room(self, room: usize, starts: &[u64], files: &[u64]) -> Result<RegionMap, Refusal>
         ensures { Roomed self room starts.now files.now result }
     {
         if room > MOST {
-            return Mapped::Refused(1);
+            return Err(Refusal::Lists);
         }
-        let most = higher(self.room, room);
+        let most = self.room.max(room);
         if too_few(most, starts.len(), files.len()) {
-            return Mapped::Refused(1);
+            return Err(Refusal::Lists);
         }
-        let mut map = self;
-        map.room = most;
-        Mapped::Map(map)
+        Ok(RegionMap { room: most, ..self })
     }
 
     // The map with so many bytes of data, or more where it has more.
-    pub fn publish_len(self, len: u64) -> Mapped
+    pub fn publish_len(self, len: u64) -> Result<RegionMap, Refusal>
         ensures { Published self len result }
     {
         if len > self.capacity {
-            return Mapped::Refused(23);
+            return Err(Refusal::Past);
         }
-        let mut map = self;
-        if self.len < len {
-            map.len = len;
-        }
-        Mapped::Map(map)
+        Ok(RegionMap {
+            len: self.len.max(len),
+            ..self
+        })
     }
 
     // Whether the lists have fewer places than the room, or the map more runs than it.
@@ -160,42 +130,44 @@ impl RegionMap {
         if count == 0 {
             return meets(self.first, self.capacity, file);
         }
-        meets(
-            files[count - 1],
-            sub_stop(self.capacity, starts[count - 1]),
-            file,
-        )
+        let start = starts[count - 1];
+        meets(files[count - 1], self.capacity.saturating_sub(start), file)
     }
 
     // The map with n bytes more, which stand at the byte file.
-    pub fn extend(self, file: u64, n: u64, starts: &mut [u64], files: &mut [u64]) -> Mapped
+    pub fn extend(
+        self,
+        file: u64,
+        n: u64,
+        starts: &mut [u64],
+        files: &mut [u64],
+    ) -> Result<RegionMap, Refusal>
         ensures { Extended self file n starts.old starts.new files.old files.new result }
     {
         if self.lists_fail(starts.len(), files.len()) {
-            return Mapped::Refused(1);
+            return Err(Refusal::Lists);
         }
         if n == 0 {
-            return Mapped::Refused(11);
+            return Err(Refusal::Outside);
         }
         if passes(file, n, 0xffff_ffff_ffff_ffff) {
-            return Mapped::Refused(11);
+            return Err(Refusal::Outside);
         }
-        if passes(self.capacity, n, 0xffff_ffff_ffff_ffff) {
-            return Mapped::Refused(12);
-        }
-        let mut map = self;
-        map.capacity = self.capacity + n;
+        let capacity = self.capacity.checked_add(n).ok_or(Refusal::ExtentSum)?;
         if self.ends_at(starts, files, file) {
-            return Mapped::Map(map);
+            return Ok(RegionMap { capacity, ..self });
         }
         let count = self.count;
         if count >= self.room {
-            return Mapped::Refused(19);
+            return Err(Refusal::Full);
         }
         starts[count] = self.capacity;
         files[count] = file;
-        map.count = count + 1;
-        Mapped::Map(map)
+        Ok(RegionMap {
+            capacity,
+            count: count + 1,
+            ..self
+        })
     }
 
     // Where the run k ends.
@@ -210,24 +182,24 @@ impl RegionMap {
     }
 
     // The byte of position pos, where the n bytes from there are data and lie in one run.
-    pub fn locate(self, starts: &[u64], files: &[u64], pos: u64, n: u64) -> Located
+    pub fn locate(self, starts: &[u64], files: &[u64], pos: u64, n: u64) -> Result<u64, Refusal>
         ensures { Answered self pos n starts.now files.now result }
     {
         if self.lists_fail(starts.len(), files.len()) {
-            return Located::Refused(1);
+            return Err(Refusal::Lists);
         }
         if passes(pos, n, self.len) {
-            return Located::Refused(23);
+            return Err(Refusal::Past);
         }
         let count = self.count;
         let k = find(starts, count, pos);
         if passes(pos, n, self.run_end(starts, k)) {
-            return Located::Refused(24);
+            return Err(Refusal::Crosses);
         }
         if k == 0 {
-            return Located::At(add_stop(self.first, pos));
+            return Ok(self.first.saturating_add(pos));
         }
-        Located::At(add_stop(files[k - 1], pos - starts[k - 1]))
+        Ok(files[k - 1].saturating_add(pos - starts[k - 1]))
     }
 
     // The data's length.
@@ -245,16 +217,16 @@ impl RegionMap {
     }
 
     // Writes the runs into out, each as its file offset and its length.
-    pub fn runs(self, starts: &[u64], files: &[u64], out: &mut [u64]) -> RunCount
-        ensures { Written self starts.now files.now out.old out.new (count_of result) }
+    pub fn runs(self, starts: &[u64], files: &[u64], out: &mut [u64]) -> Result<usize, Refusal>
+        ensures { Written self starts.now files.now out.old out.new (told result) }
     {
         if self.lists_fail(starts.len(), files.len()) {
-            return RunCount::Refused(1);
+            return Err(Refusal::Lists);
         }
         if out.len() / 2 <= self.count {
-            return RunCount::Refused(1);
+            return Err(Refusal::Lists);
         }
         list_runs(self, starts, files, out);
-        RunCount::Runs(self.count + 1)
+        Ok(self.count + 1)
     }
 }

@@ -1,4 +1,5 @@
-// The search for a position's run among plain starts.
+// The search for a position's run among plain starts. The library's `partition_point` promises nothing of
+// starts out of order, and this one that the start in front of its answer is at or below the position.
 ghost use Rattle.std.specs.Prelude.{◌≤◌, length};
 ghost use Rattle.numbers.specs.Search.{Found};
 

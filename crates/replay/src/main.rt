@@ -9,65 +9,65 @@ mod joined;
 mod settled;
 mod sorted;
 
-use sample::Tally;
-use sample::report::{numbers_read, tell};
-use sample::words::{at, list, past, past_list};
+use sample::report::Replay;
+use sample::{Case, report};
 
-fn main() {
-    let mut words = words_room();
-    let n = numbers_read(&mut words);
-    report(replayed(&words[0..n]));
+fn main(rt: HostRuntime) {
+    let modules = [
+        ("align", 1),
+        ("sort", 2),
+        ("checks", 3),
+        ("runs", 4),
+        ("settle", 6),
+        ("of no module", 0),
+    ];
+    report::run(&rt, &mut Alone, &modules, "the Rust");
 }
 
-fn words_room() -> [u64; 40000] {
-    [0; 40000]
-}
+// Each case by itself.
+#[derive(Drop)]
+struct Alone;
 
-fn report(tally: Tally) {
-    tell(b"align", tally, 1);
-    tell(b"sort", tally, 2);
-    tell(b"checks", tally, 3);
-    tell(b"runs", tally, 4);
-    tell(b"settle", tally, 6);
-    tell(b"of no module", tally, 0);
-}
-
-// Counts the cases of each module, and those that are answered alike.
-fn replayed(words: &[u64]) -> Tally {
-    let mut tally = Tally::new();
-    let mut i = 0;
-    while i < words.len() {
-        let rest = &words[i..];
-        tally = counted(tally, rest);
-        i = words.len() - past_list(rest).len();
-    }
-    tally
-}
-
-// With the case that w begins with: its length, and so many numbers, its module's and what that module's
-// file says.
-fn counted(tally: Tally, w: &[u64]) -> Tally {
-    let case = list(w);
-    let module = at(case, 0);
-    let whole = case.len() as u64 == at(w, 0);
-    tally.counted(known(module), whole && alike(module, past(case, 1)))
-}
-
-// The module's number, 0 where this program has no such module.
-fn known(module: u64) -> u64 {
-    match module {
-        1 | 2 | 3 | 4 | 6 => module,
-        _ => 0,
+impl Replay for Alone {
+    fn replay(&mut self, case: Case<'_>) -> Option<bool> {
+        let module = Module::try_from(case.kind).ok()?;
+        Some(module.alike(case.call))
     }
 }
 
-fn alike(module: u64, call: &[u64]) -> bool {
-    match module {
-        1 => aligned::alike(call),
-        2 => sorted::alike(call),
-        3 => checked::alike(call),
-        4 => joined::alike(call),
-        6 => settled::alike(call),
-        _ => false,
+#[derive(Clone, Copy)]
+enum Module {
+    Align,
+    Sort,
+    Checks,
+    Runs,
+    Settle,
+}
+
+impl TryFrom<u64> for Module {
+    type Error = ();
+
+    fn try_from(number: u64) -> Result<Module, ()> {
+        match number {
+            1 => Ok(Module::Align),
+            2 => Ok(Module::Sort),
+            3 => Ok(Module::Checks),
+            4 => Ok(Module::Runs),
+            6 => Ok(Module::Settle),
+            _ => Err(()),
+        }
+    }
+}
+
+impl Module {
+    // Whether a call's answer is the stored one.
+    fn alike(self, call: &[u64]) -> bool {
+        match self {
+            Module::Align => aligned::alike(call),
+            Module::Sort => sorted::alike(call),
+            Module::Checks => checked::alike(call),
+            Module::Runs => joined::alike(call),
+            Module::Settle => settled::alike(call),
+        }
     }
 }

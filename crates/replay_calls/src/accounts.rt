@@ -4,194 +4,215 @@
 ghost use Rattle.std.specs.Prelude.{◌<◌};
 
 use accounting::{Accounting, Asked, Posted};
-use sample::words::{at, bytes_in, has, nth_list, past, past_lists, whole};
-use tagspace::{Cap, ExtentLen, TagSpace, extent_len};
+use numbers::{Refusal, number_in};
+use sample::words::{at, converted, has, nth_list, past, past_lists, whole};
+use tagspace::{TagSpace, extent_len};
 
-// The three numbers of a call's answer, and the accounts after it.
-#[derive(Clone, Copy)]
-pub(crate) struct Answer {
-    refusal: u64,
-    so: bool,
-    value: u64,
-    pub(crate) accounts: Accounting,
+#[derive(Clone, Copy, PartialEq, Eq)]
+enum Kind {
+    Empty,
+    FromUsage,
+    FromEntries,
+    AddUsage,
+    RemoveUsage,
+    Add,
+    Remove,
+    Fits,
+    Reserve,
+    Unreserve,
+    SetCap,
+    Rows,
+    ExtentLen,
 }
 
-fn plain(accounts: Accounting) -> Answer {
+impl TryFrom<u64> for Kind {
+    type Error = ();
+
+    fn try_from(number: u64) -> Result<Kind, ()> {
+        match number {
+            1 => Ok(Kind::Empty),
+            2 => Ok(Kind::FromUsage),
+            3 => Ok(Kind::FromEntries),
+            4 => Ok(Kind::AddUsage),
+            5 => Ok(Kind::RemoveUsage),
+            6 => Ok(Kind::Add),
+            7 => Ok(Kind::Remove),
+            8 => Ok(Kind::Fits),
+            9 => Ok(Kind::Reserve),
+            10 => Ok(Kind::Unreserve),
+            11 => Ok(Kind::SetCap),
+            12 => Ok(Kind::Rows),
+            13 => Ok(Kind::ExtentLen),
+            _ => Err(()),
+        }
+    }
+}
+
+#[derive(Clone, Copy)]
+struct Call<'a> {
+    kind: Kind,
+    tag: u32,
+    a: u64,
+    b: u64,
+    c: u64,
+    tags: &'a [u64],
+    second: &'a [u64],
+    third: &'a [u64],
+    due: &'a [u64],
+}
+
+// The call, where it is one of the thirteen, its tags are tags, its states are bytes, there is room for
+// both, and a cap is one or none.
+fn read(call: &[u64]) -> Option<Call<'_>> {
+    let lists = past(call, 5);
+    let kind = Kind::try_from(at(call, 0)).ok()?;
+    let fits = whole(lists, 0, 0, 128, 0xffff_ffff)
+        && (kind != Kind::FromEntries || whole(lists, 0, 2, 128, 255))
+        && (kind != Kind::SetCap || at(call, 2) <= 1);
+    let call = Call {
+        kind,
+        tag: u32::try_from(at(call, 1)).ok()?,
+        a: at(call, 2),
+        b: at(call, 3),
+        c: at(call, 4),
+        tags: nth_list(lists, 0, 0),
+        second: nth_list(lists, 0, 1),
+        third: nth_list(lists, 0, 2),
+        due: past_lists(lists, 0, 3),
+    };
+    fits.then_some(call)
+}
+
+// The accounts after a call; answers whether the call was answered alike.
+pub(crate) fn replay(accounts: &mut Accounting, call: &[u64]) -> bool {
+    let Some(call) = read(call) else {
+        return false;
+    };
+    let answer = answered(call, *accounts);
+    *accounts = answer.accounts;
+    alike(call, answer)
+}
+
+// A call's answer, with a value where it is so, and the accounts after it.
+#[derive(Clone, Copy)]
+struct Answer {
+    told: Result<Option<u64>, Refusal>,
+    accounts: Accounting,
+}
+
+fn given(accounts: Accounting, value: Option<u64>) -> Answer {
     Answer {
-        refusal: 0,
-        so: false,
-        value: 0,
+        told: Ok(value),
         accounts,
     }
 }
 
-fn posted(p: Posted) -> Answer {
-    let accounts = p.accounts;
-    Answer {
-        refusal: p.refusal,
-        so: false,
-        value: 0,
-        accounts,
+impl From<Posted> for Answer {
+    fn from(posted: Posted) -> Answer {
+        Answer {
+            told: posted.answer.map(|()| None),
+            accounts: posted.accounts,
+        }
+    }
+}
+
+// Where it fits, the value is 0.
+impl From<Asked> for Answer {
+    fn from(asked: Asked) -> Answer {
+        Answer {
+            told: asked.answer.map(|fits| fits.then_some(0)),
+            accounts: asked.accounts,
+        }
     }
 }
 
 // Where a list is refused, the accounts stay what they were.
-fn made(before: Accounting, p: Posted) -> Answer {
-    if p.refusal == 0 {
-        return posted(p);
+fn made(before: Accounting, posted: Posted) -> Answer {
+    let answer = Answer::from(posted);
+    if answer.told.is_ok() {
+        return answer;
     }
     Answer {
-        refusal: p.refusal,
-        so: false,
-        value: 0,
         accounts: before,
-    }
-}
-
-fn asked(r: Asked) -> Answer {
-    let accounts = r.accounts;
-    Answer {
-        refusal: r.refusal,
-        so: r.fits,
-        value: 0,
-        accounts,
-    }
-}
-
-// Whether there is a length, and the length.
-fn measured(accounts: Accounting, len: ExtentLen) -> Answer {
-    match len {
-        ExtentLen::Bytes(bytes) => Answer {
-            refusal: 0,
-            so: true,
-            value: bytes,
-            accounts,
-        },
-        ExtentLen::Nothing => plain(accounts),
-    }
-}
-
-fn tag_of(number: u64) -> u32 {
-    (number % 0x1_0000_0000) as u32
-}
-
-fn cap_of(capped: u64, limit: u64) -> Cap {
-    if capped == 0 {
-        return Cap::Nothing;
-    }
-    Cap::Limit(limit)
-}
-
-// What ours makes of the accounts.
-fn changed(call: &[u64], accounts: Accounting, tag: u32) -> Posted {
-    let code = at(call, 0);
-    let a = at(call, 2);
-    let b = at(call, 3);
-    match code {
-        4 => accounts.add_usage(tag, a, b),
-        5 => accounts.remove_usage(tag, a, b),
-        6 => accounts.add(tag, a, b),
-        7 => accounts.remove(tag, a, b),
-        9 => accounts.reserve(tag, a),
-        10 => accounts.unreserve(tag, a),
-        _ => accounts.set_cap(tag, cap_of(a, b)),
+        ..answer
     }
 }
 
 // What ours answers.
-pub(crate) fn answered(call: &[u64], accounts: Accounting) -> Answer {
-    let code = at(call, 0);
-    let tag = tag_of(at(call, 1));
-    match code {
-        1 => plain(Accounting::empty()),
-        2 => made(accounts, usages_in(call)),
-        3 => made(accounts, entries_in(call)),
-        8 => asked(accounts.fits(tag, at(call, 2))),
-        12 => plain(accounts),
-        13 => measured(accounts, extent_len(at(call, 2), at(call, 3))),
-        _ => posted(changed(call, accounts, tag)),
+fn answered(call: Call, accounts: Accounting) -> Answer {
+    let Call { tag, a, b, .. } = call;
+    match call.kind {
+        Kind::Empty => given(Accounting::empty(), None),
+        Kind::FromUsage => made(accounts, usages_in(call)),
+        Kind::FromEntries => made(accounts, entries_in(call)),
+        Kind::AddUsage => accounts.add_usage(tag, a, b).into(),
+        Kind::RemoveUsage => accounts.remove_usage(tag, a, b).into(),
+        Kind::Add => accounts.add(tag, a, b).into(),
+        Kind::Remove => accounts.remove(tag, a, b).into(),
+        Kind::Fits => accounts.fits(tag, a).into(),
+        Kind::Reserve => accounts.reserve(tag, a).into(),
+        Kind::Unreserve => accounts.unreserve(tag, a).into(),
+        Kind::SetCap => accounts.set_cap(tag, (a != 0).then_some(b)).into(),
+        Kind::Rows => given(accounts, None),
+        Kind::ExtentLen => given(accounts, extent_len(a, b)),
     }
-}
-
-// The tags that numbers stand for, as many as there is room for.
-fn tags_in<'a>(numbers: &[u64], tags: &'a mut [u32]) -> &'a mut [u32] {
-    let mut i = 0;
-    while i < numbers.len() && i < tags.len() {
-        tags[i] = (numbers[i] % 0x1_0000_0000) as u32;
-        i += 1;
-    }
-    &mut tags[0..i]
 }
 
 // The accounts of usages: tags, data bytes, occupied bytes.
-fn usages_in(call: &[u64]) -> Posted {
+fn usages_in(call: Call) -> Posted {
     let mut room = [0u32; 128];
-    let tags = tags_in(nth_list(call, 5, 0), &mut room);
-    Accounting::from_usage(tags, nth_list(call, 5, 1), nth_list(call, 5, 2))
+    let tags = converted(call.tags, &mut room);
+    Accounting::from_usage(tags, call.second, call.third)
 }
 
 // The accounts of entries: tags, data sizes, states.
-fn entries_in(call: &[u64]) -> Posted {
+fn entries_in(call: Call) -> Posted {
     let mut room = [0u32; 128];
     let mut states_room = [0u8; 128];
-    let tags = tags_in(nth_list(call, 5, 0), &mut room);
-    let states = bytes_in(nth_list(call, 5, 2), &mut states_room);
-    Accounting::from_entries(states, tags, nth_list(call, 5, 1), at(call, 4))
+    let tags = converted(call.tags, &mut room);
+    let states = converted(call.third, &mut states_room);
+    Accounting::from_entries(states, tags, call.second, call.c)
 }
 
-pub(crate) fn alike(call: &[u64], answer: Answer) -> bool {
+fn alike(call: Call, answer: Answer) -> bool {
     let accounts = answer.accounts;
-    let due = past_lists(call, 5, 3);
-    known(call)
-        && numbers_alike(answer, due)
-        && row_alike(accounts.row(tag_of(at(call, 1))), due, 5)
-        && rows_alike(at(call, 0) == 12, accounts, due)
-}
-
-// Whether a call is one of the thirteen, its tags are tags, its states are bytes, there is room for
-// both, and a cap is one or none.
-fn known(call: &[u64]) -> bool {
-    let code = at(call, 0);
-    code > 0
-        && code <= 13
-        && at(call, 1) < 0x1_0000_0000
-        && whole(call, 5, 0, 128, 0xffff_ffff)
-        && (code != 3 || whole(call, 5, 2, 128, 255))
-        && (code != 11 || at(call, 2) <= 1)
+    let due = call.due;
+    numbers_alike(answer, due)
+        && row_alike(accounts.row(call.tag), due, 5)
+        && rows_alike(call.kind == Kind::Rows, accounts, due)
 }
 
 // The refusal, whether it is so, the value, how many rows there are and the bytes reserved.
 fn numbers_alike(answer: Answer, due: &[u64]) -> bool {
     let accounts = answer.accounts;
-    let so = answer.so as u64;
+    let value = answer.told.unwrap_or(None);
     let count = accounts.count as u64;
     has(
         due,
         0,
-        &[answer.refusal, so, answer.value, count, accounts.reserved()],
+        &[
+            number_in(answer.told),
+            value.is_some() as u64,
+            value.unwrap_or(0),
+            count,
+            accounts.reserved(),
+        ],
     )
 }
 
 // Whether a row's numbers stand at a place: its tag, whether it has a cap, its three numbers, the cap.
 fn row_alike(row: TagSpace, due: &[u64], from: u64) -> bool {
     let cap = row.cap;
-    match cap {
-        Cap::Nothing => capped_alike(row, 0, 0, due, from),
-        Cap::Limit(limit) => capped_alike(row, 1, limit, due, from),
-    }
-}
-
-fn capped_alike(row: TagSpace, capped: u64, limit: u64, due: &[u64], from: u64) -> bool {
     has(
         due,
         from,
         &[
             row.tag as u64,
-            capped,
+            cap.is_some() as u64,
             row.logical,
             row.physical,
             row.reserved,
-            limit,
+            cap.unwrap_or(0),
         ],
     )
 }
@@ -208,22 +229,11 @@ fn rows_alike(all: bool, accounts: Accounting, due: &[u64]) -> bool {
 
 // Whether the rows in tag order are these, and blank behind them.
 fn each_alike(accounts: Accounting, due: &[u64]) -> bool {
-    let mut i = 0;
-    while i < 98 {
-        if !place_alike(accounts, due, i) {
-            return false;
-        }
-        i += 1;
-    }
-    true
+    (0..98).all(|i| place_alike(accounts, due, i))
 }
 
-fn place_alike(accounts: Accounting, due: &[u64], i: usize) -> bool
-    requires { i < 98 }
-{
+fn place_alike(accounts: Accounting, due: &[u64], i: usize) -> bool {
     let row = accounts.row_at(i);
-    if 6 * i < due.len() {
-        return row_alike(row, due, 6 * i as u64);
-    }
-    row_alike(row, &[0, 0, 0, 0, 0, 0], 0)
+    let rows = due.as_chunks::<6>().0;
+    row_alike(row, rows.get(i).unwrap_or(&[0; 6]), 0)
 }

@@ -1,13 +1,59 @@
 // The free map's calls, on one map with its list of gaps. A call: its number, three arguments, how
 // many slots are lent for gaps, and a list of ranges; three numbers, of which the first is the refusal,
 // the ranges after the call, and the gaps that it wrote.
-use freemap::{Complement, Fit, FreeBytes, FreeMap};
-use sample::words::{at, copied, front, has, kept, nth_list, past, past_lists, whole};
+use freemap::FreeMap;
+use numbers::{Refusal, number_in};
+use sample::words::{at, converted, front, has, kept, list, past, past_list, whole};
 
-// With whether the last call was answered alike.
+#[derive(Clone, Copy, PartialEq, Eq)]
+enum Kind {
+    Complement,
+    FirstFit,
+    FreeBytes,
+}
+
+impl TryFrom<u64> for Kind {
+    type Error = ();
+
+    fn try_from(number: u64) -> Result<Kind, ()> {
+        match number {
+            1 => Ok(Kind::Complement),
+            2 => Ok(Kind::FirstFit),
+            3 => Ok(Kind::FreeBytes),
+            _ => Err(()),
+        }
+    }
+}
+
+#[derive(Clone, Copy)]
+struct Call<'a> {
+    kind: Kind,
+    a: u64,
+    b: u64,
+    c: u64,
+    slots: u64,
+    ranges: &'a [u64],
+    due: &'a [u64],
+}
+
+// The call, where it is one of the three, and there are as many slots and ranges as it says.
+fn read(call: &[u64]) -> Option<Call<'_>> {
+    let lists = past(call, 5);
+    let fits = at(call, 4) <= 64 && whole(lists, 0, 0, 64, u64::MAX);
+    let call = Call {
+        kind: Kind::try_from(at(call, 0)).ok()?,
+        a: at(call, 1),
+        b: at(call, 2),
+        c: at(call, 3),
+        slots: at(call, 4),
+        ranges: list(lists),
+        due: past_list(lists),
+    };
+    fits.then_some(call)
+}
+
 #[derive(Clone, Copy)]
 pub(crate) struct FreeState {
-    pub(crate) alike: bool,
     map: FreeMap,
     gaps: [u64; 64],
 }
@@ -16,109 +62,82 @@ impl FreeState {
     // The state before the first call.
     pub(crate) fn new() -> FreeState {
         FreeState {
-            alike: true,
             map: FreeMap { count: 0, tail: 0 },
             gaps: [7; 64],
         }
     }
-}
 
-// The state after a call.
-pub(crate) fn replay(before: FreeState, call: &[u64]) -> FreeState {
-    let map = before.map;
-    let mut gaps = before.gaps;
-    let mut room = [0u64; 64];
-    let ranges = copied(nth_list(call, 5, 0), &mut room);
-    let answer = answered(call, map, ranges, front(&mut gaps, at(call, 4)));
-    let map = answer.map;
-    let mut after = FreeState {
-        alike: false,
-        map,
-        gaps,
-    };
-    let alike = alike(call, answer, before, after, ranges);
-    after.alike = alike;
-    after
-}
-
-// The three numbers of a call's answer, and the map after it.
-#[derive(Clone, Copy)]
-struct FreeAnswer {
-    refusal: u64,
-    second: u64,
-    third: u64,
-    map: FreeMap,
-}
-
-fn numbers(refusal: u64, second: u64, third: u64, map: FreeMap) -> FreeAnswer {
-    FreeAnswer {
-        refusal,
-        second,
-        third,
-        map,
+    // The state after a call; answers whether the call was answered alike.
+    pub(crate) fn replay(&mut self, call: &[u64]) -> bool {
+        let Some(call) = read(call) else {
+            return false;
+        };
+        let before = *self;
+        let mut room = [0u64; 64];
+        let ranges = converted(call.ranges, &mut room);
+        let answer = answered(call, before.map, ranges, front(&mut self.gaps, call.slots));
+        self.map = answer.map;
+        alike(call, answer, before, *self, ranges)
     }
 }
 
-// A map's two numbers.
-fn made(refusal: u64, map: FreeMap) -> FreeAnswer {
-    numbers(refusal, map.count as u64, map.tail(), map)
+// A call's answer, the two numbers told with it, and the map after it.
+#[derive(Clone, Copy)]
+struct FreeAnswer {
+    told: Result<(), Refusal>,
+    numbers: [u64; 2],
+    map: FreeMap,
 }
 
-fn complemented(map: FreeMap, answer: Complement) -> FreeAnswer {
-    match answer {
-        Complement::Map(next) => made(0, next),
-        Complement::Refused(n) => made(n, map),
+// A map's two numbers.
+fn complemented(map: FreeMap, answer: Result<FreeMap, Refusal>) -> FreeAnswer {
+    let map = answer.unwrap_or(map);
+    FreeAnswer {
+        told: answer.map(|_| ()),
+        numbers: [map.count as u64, map.tail()],
+        map,
     }
 }
 
 // Whether there is a place, and the place.
-fn fitted(map: FreeMap, answer: Fit) -> FreeAnswer {
-    match answer {
-        Fit::At(at) => numbers(0, 1, at, map),
-        Fit::Nothing => numbers(0, 0, 0, map),
-        Fit::Refused(n) => numbers(n, 0, 0, map),
+fn fitted(map: FreeMap, answer: Result<Option<u64>, Refusal>) -> FreeAnswer {
+    let place = answer.unwrap_or(None);
+    FreeAnswer {
+        told: answer.map(|_| ()),
+        numbers: [place.is_some() as u64, place.unwrap_or(0)],
+        map,
     }
 }
 
-fn summed(map: FreeMap, answer: FreeBytes) -> FreeAnswer {
-    match answer {
-        FreeBytes::Bytes(n) => numbers(0, n, 0, map),
-        FreeBytes::Refused(n) => numbers(n, 0, 0, map),
+fn summed(map: FreeMap, answer: Result<u64, Refusal>) -> FreeAnswer {
+    FreeAnswer {
+        told: answer.map(|_| ()),
+        numbers: [answer.unwrap_or(0), 0],
+        map,
     }
 }
 
 // What ours answers; ranges and gaps are lent as the call says.
-fn answered(call: &[u64], map: FreeMap, ranges: &mut [u64], gaps: &mut [u64]) -> FreeAnswer {
-    let code = at(call, 0);
-    let a = at(call, 1);
-    let b = at(call, 2);
-    let c = at(call, 3);
-    match code {
-        1 => complemented(map, FreeMap::complement(a, b, ranges, gaps)),
-        2 => fitted(map, map.first_fit(gaps, a, b, c)),
-        3 => summed(map, map.free_bytes(gaps)),
-        _ => made(0, map),
+fn answered(call: Call, map: FreeMap, ranges: &mut [u64], gaps: &mut [u64]) -> FreeAnswer {
+    match call.kind {
+        Kind::Complement => { complemented(map, FreeMap::complement(call.a, call.b, ranges, gaps)) }
+        Kind::FirstFit => fitted(map, map.first_fit(gaps, call.a, call.b, call.c)),
+        Kind::FreeBytes => summed(map, map.free_bytes(gaps)),
     }
-}
-
-// Whether a call is one of the three, and there are as many slots and ranges as it says.
-fn known(call: &[u64]) -> bool {
-    let code = at(call, 0);
-    code > 0 && code <= 3 && at(call, 4) <= 64 && whole(call, 5, 0, 64, 0xffff_ffff_ffff_ffff)
 }
 
 // Given the ranges after the call.
 fn alike(
-    call: &[u64],
+    call: Call,
     answer: FreeAnswer,
     before: FreeState,
     after: FreeState,
     ranges: &[u64],
 ) -> bool {
-    let due = past_lists(call, 5, 1);
+    let due = call.due;
     let gaps = past(past(due, 3), ranges.len() as u64);
-    known(call)
-        && has(due, 0, &[answer.refusal, answer.second, answer.third])
+    has(due, 0, &[number_in(answer.told)])
+        && has(due, 1, &answer.numbers)
         && has(due, 3, ranges)
         && gaps_alike(written(call, answer), gaps, before, after)
 }
@@ -133,9 +152,9 @@ fn gaps_alike(count: u64, gaps: &[u64], before: FreeState, after: FreeState) -> 
 }
 
 // How many gaps a call writes.
-fn written(call: &[u64], answer: FreeAnswer) -> u64 {
-    if at(call, 0) == 1 && answer.refusal == 0 {
-        return answer.second;
+fn written(call: Call, answer: FreeAnswer) -> u64 {
+    if call.kind == Kind::Complement && answer.told.is_ok() {
+        return answer.map.count as u64;
     }
     0
 }

@@ -1,14 +1,63 @@
 // The region map's calls, on one map with its lists of starts and files. A call: its number, two
 // arguments, how many places of starts and files are lent, and a list; refusal, value, the map's five
 // numbers, and the last run's start and file.
-use regionmap::{Located, Mapped, RegionMap};
-use runs::RunCount;
-use sample::words::{at, front, has, kept, nth_list, past_lists, same};
+use numbers::{Refusal, number_in};
+use regionmap::RegionMap;
+use sample::words::{at, front, has, kept, list, past, past_list};
 
-// With whether the last call was answered alike.
+#[derive(Clone, Copy, PartialEq, Eq)]
+enum Kind {
+    FromExtents,
+    WithRoom,
+    PublishLen,
+    Extend,
+    Locate,
+    Runs,
+}
+
+impl TryFrom<u64> for Kind {
+    type Error = ();
+
+    fn try_from(number: u64) -> Result<Kind, ()> {
+        match number {
+            1 => Ok(Kind::FromExtents),
+            2 => Ok(Kind::WithRoom),
+            3 => Ok(Kind::PublishLen),
+            4 => Ok(Kind::Extend),
+            5 => Ok(Kind::Locate),
+            6 => Ok(Kind::Runs),
+            _ => Err(()),
+        }
+    }
+}
+
+#[derive(Clone, Copy)]
+struct Call<'a> {
+    kind: Kind,
+    a: u64,
+    b: u64,
+    places: u64,
+    list: &'a [u64],
+    due: &'a [u64],
+}
+
+// The call, where it is one of the six, and is lent no more places than there are.
+fn read(call: &[u64]) -> Option<Call<'_>> {
+    let lists = past(call, 4);
+    let call = Call {
+        kind: Kind::try_from(at(call, 0)).ok()?,
+        a: at(call, 1),
+        b: at(call, 2),
+        places: at(call, 3),
+        list: list(lists),
+        due: past_list(lists),
+    };
+    let fits = call.places <= 64 && (call.kind != Kind::Runs || call.a <= 160);
+    fits.then_some(call)
+}
+
 #[derive(Clone, Copy)]
 pub(crate) struct RegionState {
-    pub(crate) alike: bool,
     map: RegionMap,
     starts: [u64; 64],
     files: [u64; 64],
@@ -18,7 +67,6 @@ impl RegionState {
     // The state before the first call.
     pub(crate) fn new() -> RegionState {
         RegionState {
-            alike: true,
             map: RegionMap {
                 first: 0,
                 len: 0,
@@ -30,133 +78,82 @@ impl RegionState {
             files: [7; 64],
         }
     }
+
+    // The state after a call; answers whether the call was answered alike.
+    pub(crate) fn replay(&mut self, call: &[u64]) -> bool {
+        let Some(call) = read(call) else {
+            return false;
+        };
+        let before = *self;
+        let mut out = [7u64; 160];
+        let answer = answered(
+            call,
+            before.map,
+            front(&mut self.starts, call.places),
+            front(&mut self.files, call.places),
+            front(&mut out, call.a),
+        );
+        self.map = answer.map;
+        alike(call, answer, before, *self, &out)
+    }
 }
 
-// The state after a call.
-pub(crate) fn replay(before: RegionState, call: &[u64]) -> RegionState {
-    let map = before.map;
-    let mut starts = before.starts;
-    let mut files = before.files;
-    let mut out = [7u64; 160];
-    let places = at(call, 3);
-    let answer = answered(
-        call,
-        map,
-        front(&mut starts, places),
-        front(&mut files, places),
-        front(&mut out, at(call, 1)),
-    );
-    let map = answer.map;
-    let mut after = RegionState {
-        alike: false,
-        map,
-        starts,
-        files,
-    };
-    let alike = alike(call, answer, before, after, &out);
-    after.alike = alike;
-    after
-}
-
-// The refusal and the value of a call, each 0 where there is none, and the map after it.
+// A call's answer, of value 0 where it has none, and the map after it.
 #[derive(Clone, Copy)]
 struct RegionAnswer {
-    refusal: u64,
-    value: u64,
+    told: Result<u64, Refusal>,
     map: RegionMap,
 }
 
-fn given(value: u64, map: RegionMap) -> RegionAnswer {
+fn given(map: RegionMap, told: Result<u64, Refusal>) -> RegionAnswer {
+    RegionAnswer { told, map }
+}
+
+fn mapped(map: RegionMap, answer: Result<RegionMap, Refusal>) -> RegionAnswer {
     RegionAnswer {
-        refusal: 0,
-        value,
-        map,
-    }
-}
-
-fn refused(refusal: u64, map: RegionMap) -> RegionAnswer {
-    RegionAnswer {
-        refusal,
-        value: 0,
-        map,
-    }
-}
-
-fn mapped(map: RegionMap, answer: Mapped) -> RegionAnswer {
-    match answer {
-        Mapped::Map(next) => given(0, next),
-        Mapped::Refused(n) => refused(n, map),
-    }
-}
-
-fn located(map: RegionMap, answer: Located) -> RegionAnswer {
-    match answer {
-        Located::At(byte) => given(byte, map),
-        Located::Refused(n) => refused(n, map),
-    }
-}
-
-fn listed(map: RegionMap, answer: RunCount) -> RegionAnswer {
-    match answer {
-        RunCount::Runs(n) => given(n as u64, map),
-        RunCount::Refused(n) => refused(n, map),
-    }
-}
-
-// What ours makes of the map.
-fn changed(call: &[u64], map: RegionMap, starts: &mut [u64], files: &mut [u64]) -> Mapped {
-    let code = at(call, 0);
-    let a = at(call, 1);
-    match code {
-        1 => RegionMap::from_extents(nth_list(call, 4, 0), a, starts, files),
-        2 => map.with_room(a as usize, starts, files),
-        3 => map.publish_len(a),
-        _ => map.extend(a, at(call, 2), starts, files),
+        told: answer.map(|_| 0),
+        map: answer.unwrap_or(map),
     }
 }
 
 // What ours answers; starts, files and out are lent as the call says.
 fn answered(
-    call: &[u64],
+    call: Call,
     map: RegionMap,
     starts: &mut [u64],
     files: &mut [u64],
     out: &mut [u64],
 ) -> RegionAnswer {
-    let code = at(call, 0);
-    match code {
-        5 => located(map, map.locate(starts, files, at(call, 1), at(call, 2))),
-        6 => listed(map, map.runs(starts, files, out)),
-        _ => mapped(map, changed(call, map, starts, files)),
+    let Call { list, a, b, .. } = call;
+    match call.kind {
+        Kind::FromExtents => mapped(map, RegionMap::from_extents(list, a, starts, files)),
+        Kind::WithRoom => mapped(map, map.with_room(a as usize, starts, files)),
+        Kind::PublishLen => mapped(map, map.publish_len(a)),
+        Kind::Extend => mapped(map, map.extend(a, b, starts, files)),
+        Kind::Locate => given(map, map.locate(starts, files, a, b)),
+        Kind::Runs => given(map, map.runs(starts, files, out).map(|n| n as u64)),
     }
 }
 
 fn alike(
-    call: &[u64],
+    call: Call,
     answer: RegionAnswer,
     before: RegionState,
     after: RegionState,
     out: &[u64],
 ) -> bool {
-    known(call)
-        && numbers_alike(call, answer, after)
+    numbers_alike(call.due, answer, after)
         && slots_kept(written_from(call, answer, before), answer, before, after)
-        && (at(call, 0) != 6 || runs_alike(nth_list(call, 4, 0), answer.value, out))
-}
-
-// Whether a call is one of the six, and is lent no more places than there are.
-fn known(call: &[u64]) -> bool {
-    let code = at(call, 0);
-    code > 0 && code <= 6 && at(call, 3) <= 64 && (code != 6 || at(call, 1) <= 160)
+        && (call.kind != Kind::Runs || runs_alike(call.list, answer.told.unwrap_or(0), out))
 }
 
 // Whether the nine numbers of the answer are alike.
-fn numbers_alike(call: &[u64], answer: RegionAnswer, after: RegionState) -> bool {
+fn numbers_alike(due: &[u64], answer: RegionAnswer, after: RegionState) -> bool {
     let map = answer.map;
     let count = map.count;
     let numbers = [
-        answer.refusal,
-        answer.value,
+        number_in(answer.told),
+        answer.told.unwrap_or(0),
         map.first,
         map.len,
         map.capacity,
@@ -165,21 +162,18 @@ fn numbers_alike(call: &[u64], answer: RegionAnswer, after: RegionState) -> bool
         last(&after.starts, count),
         last(&after.files, count),
     ];
-    same(&numbers, past_lists(call, 4, 1))
+    due == numbers.as_slice()
 }
 
 // The last of the first count slots, 0 where count is 0.
 fn last(slots: &[u64], count: usize) -> u64 {
-    if count == 0 {
-        return 0;
-    }
-    at(slots, count - 1)
+    count.checked_sub(1).map_or(0, |i| at(slots, i))
 }
 
 // The first slot that a call writes: from_extents those of all runs after the first, any other call
 // those of the runs that it adds.
-fn written_from(call: &[u64], answer: RegionAnswer, before: RegionState) -> u64 {
-    if at(call, 0) == 1 && answer.refusal == 0 {
+fn written_from(call: Call, answer: RegionAnswer, before: RegionState) -> u64 {
+    if call.kind == Kind::FromExtents && answer.told.is_ok() {
         return 0;
     }
     before.map.count as u64

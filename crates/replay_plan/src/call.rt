@@ -1,91 +1,118 @@
 // A call on a plan: its number (2 create, 3 grow, 4 publish, 5 drop, 6 cap, 7 locate), three arguments, the
 // tag whose totals are asked, how many numbers of each list are lent, and a name; then what is seen.
 use crate::figures;
-use crate::figures::tag_of;
-use crate::state::Replayed;
-use flat::cap_from;
-use flat_plan::flat_reply;
+use crate::state::{Kind, State};
 use plan_record::{Outcome, Plan};
-use sample::words::{at, bytes_in, front, nth_list, past_lists, whole};
+use sample::words::{at, converted, front, list, past, past_list, whole};
 
-pub(crate) fn replay(
-    plan: Plan,
-    case: &[u64],
-    extents: &mut [u64],
-    starts: &mut [u64],
-    files: &mut [u64],
-) -> Replayed {
-    let outcome = answered(
-        plan,
-        case,
-        front(extents, at(case, 5)),
-        front(starts, at(case, 6)),
-        front(files, at(case, 7)),
-    );
-    let reply = outcome.reply;
-    let told = flat_reply(reply);
-    let after = outcome.plan;
-    Replayed {
-        alike: known(case)
-            && figures::alike(after, told, tag_of(at(case, 4)), past_lists(case, 8, 1)),
-        plan: after,
+#[derive(Clone, Copy)]
+enum Step<'a> {
+    Create { id: u64, tag: u32, name: &'a [u64] },
+    Grow { id: u64 },
+    Publish { id: u64, len: u64 },
+    Drop { id: u64 },
+    Cap { tag: u32, limit: Option<u64> },
+    Locate { id: u64, pos: u64, n: u64 },
+}
+
+#[derive(Clone, Copy)]
+struct Call<'a> {
+    step: Step<'a>,
+    asked: u32,
+    extents: u64,
+    starts: u64,
+    files: u64,
+    due: &'a [u64],
+}
+
+// The call, where the lists have so many numbers, the tags are tags, and the name has room.
+fn read(kind: Kind, numbers: &[u64]) -> Option<Call<'_>> {
+    let lists = past(numbers, 7);
+    let call = Call {
+        step: step_in(kind, numbers)?,
+        asked: u32::try_from(at(numbers, 3)).ok()?,
+        extents: at(numbers, 4),
+        starts: at(numbers, 5),
+        files: at(numbers, 6),
+        due: past_list(lists),
+    };
+    let fits = call.extents <= 7688
+        && call.starts <= 3848
+        && call.files <= 3848
+        && whole(lists, 0, 0, 64, 255);
+    fits.then_some(call)
+}
+
+fn step_in(kind: Kind, numbers: &[u64]) -> Option<Step<'_>> {
+    let first = at(numbers, 0);
+    let second = at(numbers, 1);
+    let third = at(numbers, 2);
+    match kind {
+        Kind::Create => Some(Step::Create {
+            id: first,
+            tag: u32::try_from(second).ok()?,
+            name: list(past(numbers, 7)),
+        }),
+        Kind::Grow => Some(Step::Grow { id: first }),
+        Kind::Publish => Some(Step::Publish {
+            id: first,
+            len: second,
+        }),
+        Kind::Drop => Some(Step::Drop { id: first }),
+        Kind::Cap => Some(Step::Cap {
+            tag: u32::try_from(first).ok()?,
+            limit: match second {
+                0 => None,
+                1 => Some(third),
+                _ => return None,
+            },
+        }),
+        Kind::Locate => Some(Step::Locate {
+            id: first,
+            pos: second,
+            n: third,
+        }),
+        Kind::Open | Kind::Region => None,
     }
 }
 
-// Whether the lists have so many numbers, the tags are tags, and the name has room.
-fn known(case: &[u64]) -> bool {
-    let code = at(case, 0);
-    let tag = if code == 6 { at(case, 1) } else { at(case, 2) };
-    (tag < 0x1_0000_0000 || (code != 2 && code != 6))
-        && at(case, 4) < 0x1_0000_0000
-        && at(case, 5) <= 7688
-        && at(case, 6) <= 3848
-        && at(case, 7) <= 3848
-        && whole(case, 8, 0, 64, 255)
-        && (code != 6 || at(case, 2) <= 1)
+// The state after a call; answers whether it was answered alike.
+pub(crate) fn replay(state: &mut State, kind: Kind, numbers: &[u64]) -> bool {
+    let Some(call) = read(kind, numbers) else {
+        return false;
+    };
+    let outcome = answered(
+        state.plan,
+        call.step,
+        front(&mut state.extents, call.extents),
+        front(&mut state.starts, call.starts),
+        front(&mut state.files, call.files),
+    );
+    state.plan = outcome.plan;
+    figures::alike(outcome.plan, outcome.reply, call.asked, call.due)
 }
 
-// What ours answers; the lists are lent as the case says.
+// What ours answers; the lists are lent as the call says.
 fn answered(
     plan: Plan,
-    case: &[u64],
+    step: Step,
     extents: &mut [u64],
     starts: &mut [u64],
     files: &mut [u64],
 ) -> Outcome {
-    let code = at(case, 0);
-    let id = at(case, 1);
-    let second = at(case, 2);
-    let third = at(case, 3);
-    match code {
-        2 => created(plan, case, extents, starts, files),
-        3 => plan::grow(plan, extents, starts, files, id),
-        4 => plan::publish(plan, id, second),
-        5 => plan::drop(plan, extents, starts, files, id),
-        6 => plan::cap(plan, tag_of(id), cap_from(second == 1, third)),
-        _ => {
-            let reply = plan::locate(plan, starts, files, id, second, third);
+    match step {
+        Step::Create { id, tag, name } => {
+            let mut room = [0u8; 64];
+            let name = converted(name, &mut room);
+            plan::create(plan, extents, starts, files, id, tag, name)
+        }
+        Step::Grow { id } => plan::grow(plan, extents, starts, files, id),
+        Step::Publish { id, len } => plan::publish(plan, id, len),
+        Step::Drop { id } => plan::drop(plan, extents, starts, files, id),
+        Step::Cap { tag, limit } => plan::cap(plan, tag, limit),
+        Step::Locate { id, pos, n } => {
+            let reply = plan::locate(plan, starts, files, id, pos, n);
             Outcome { reply, plan }
         }
     }
-}
-
-fn created(
-    plan: Plan,
-    case: &[u64],
-    extents: &mut [u64],
-    starts: &mut [u64],
-    files: &mut [u64],
-) -> Outcome {
-    let mut room = [0u8; 64];
-    let name = bytes_in(nth_list(case, 8, 0), &mut room);
-    plan::create(
-        plan,
-        extents,
-        starts,
-        files,
-        at(case, 1),
-        tag_of(at(case, 2)),
-        name,
-    )
 }

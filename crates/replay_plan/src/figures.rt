@@ -1,18 +1,13 @@
 // What is seen of a plan after a call: the answer (0 done, 1 and a byte, 2 and a refusal), held and free,
 // the last number, how many regions there are, and a tag's logical and physical totals.
 use flat_plan::FlatReply;
-use plan_record::Plan;
-use sample::words::same;
+use plan_record::{Plan, Reply};
 
-// A tag; the callers test that the number is one.
-pub(crate) fn tag_of(number: u64) -> u32 {
-    (number % 0x1_0000_0000) as u32
-}
-
-pub(crate) fn alike(plan: Plan, reply: FlatReply, tag: u32, due: &[u64]) -> bool {
+pub(crate) fn alike(plan: Plan, reply: Reply, tag: u32, due: &[u64]) -> bool {
+    let told = FlatReply::from(reply);
     let numbers = [
-        reply.kind as u64,
-        reply.value,
+        u64::from(told.kind),
+        told.value,
         plan.held(),
         plan.free(),
         plan.last_number(),
@@ -20,5 +15,5 @@ pub(crate) fn alike(plan: Plan, reply: FlatReply, tag: u32, due: &[u64]) -> bool
         plan.logical(tag),
         plan.physical(tag),
     ];
-    same(&numbers, due)
+    numbers.as_slice() == due
 }

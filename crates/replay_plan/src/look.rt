@@ -1,51 +1,36 @@
 // A region that is handed out: the case's number, 8, and the region's; its record's numbers as open has
 // them, its name, and its extents.
-use crate::state::Replayed;
-use flat_plan::{FlatRecord, flat_record};
-use plan_record::Plan;
-use sample::words::{at, first, has, nth_list, past, past_lists, same, same_bytes, whole};
+use crate::state::State;
+use flat_plan::FlatRecord;
+use plan_record::Record;
+use sample::words::{at, first, has, nth_list, past, past_lists, same, whole};
 
-pub(crate) fn replay(plan: Plan, case: &[u64], extents: &[u64]) -> Replayed {
+pub(crate) fn alike(state: &State, numbers: &[u64]) -> bool {
+    let plan = state.plan;
+    let due = past(numbers, 1);
     let mut out = [7u64; 120];
-    let handed = plan.region(plan.find(at(case, 1)), extents, &mut out);
-    let filed = handed.filed;
-    let told = flat_record(filed);
-    let due = past(case, 2);
-    let n = twice(told.extent_count);
-    Replayed {
-        alike: record_alike(told, due) && same(first(&out, n), past_lists(due, 19, 1)),
-        plan,
-    }
-}
-
-fn wide(byte: u8) -> u64 {
-    byte as u64
-}
-
-fn wider(short: u16) -> u64 {
-    short as u64
-}
-
-fn twice(short: u16) -> u64 {
-    2 * short as u64
+    // Of a number that no region has, what stands past the last region is handed out.
+    let place = plan.find(at(numbers, 0)).unwrap_or(64);
+    let handed = plan.region(place, &state.extents, &mut out);
+    let told = FlatRecord::from(handed.unwrap_or(Record::blank()));
+    let n = 2 * u64::from(told.extent_count);
+    record_alike(told, due) && first(&out, n) == past_lists(due, 19, 1)
 }
 
 fn record_alike(told: FlatRecord, due: &[u64]) -> bool {
-    let name = told.name;
     whole(due, 19, 0, 24, 255)
-        && entry_alike(told, due)
-        && header_alike(told, past(due, 13))
-        && name_alike(name, told.name_len, nth_list(due, 19, 0))
+        && has(due, 0, &numbers_of(told))
+        && name_alike(told, nth_list(due, 19, 0))
 }
 
-fn entry_alike(told: FlatRecord, due: &[u64]) -> bool {
-    let numbers = [
+fn numbers_of(told: FlatRecord) -> [u64; 19] {
+    [
         told.number,
-        told.tag as u64,
-        wide(told.name_len),
-        wide(told.kind),
-        wide(told.flags),
-        wider(told.extent_count),
+        u64::from(told.tag),
+        u64::from(told.name_len),
+        u64::from(told.kind),
+        u64::from(told.flags),
+        u64::from(told.extent_count),
         told.header_a,
         told.header_b,
         told.span_start,
@@ -53,27 +38,18 @@ fn entry_alike(told: FlatRecord, due: &[u64]) -> bool {
         told.data_size,
         told.capacity,
         told.footprint_seq,
-    ];
-    has(due, 0, &numbers)
-}
-
-fn header_alike(told: FlatRecord, due: &[u64]) -> bool {
-    let numbers = [
         told.hnumber,
-        wide(told.hkind),
-        wide(told.hflags),
-        told.hready as u64,
-        wide(told.hlog2),
-        wider(told.hcount),
-    ];
-    has(due, 0, &numbers)
+        u64::from(told.hkind),
+        u64::from(told.hflags),
+        u64::from(told.hready),
+        u64::from(told.hlog2),
+        u64::from(told.hcount),
+    ]
 }
 
-// Whether the first len bytes are these; what stands behind them is no part of a name.
-fn name_alike(name: [u8; 24], len: u8, due: &[u64]) -> bool {
-    if len > 24 {
-        return false;
-    }
-    let n = len as usize;
-    same_bytes(&name[0..n], due)
+// Whether the name's bytes are these; what stands behind them is no part of it.
+fn name_alike(told: FlatRecord, due: &[u64]) -> bool {
+    let name = told.name;
+    name.get(..usize::from(told.name_len))
+        .is_some_and(|name| same(name, due))
 }

@@ -9,64 +9,20 @@ mod look;
 mod opening;
 mod state;
 
-use sample::Tally;
-use sample::report::numbers_read;
-use sample::words::past_list;
-use state::{State, replay};
+use sample::report;
+use state::State;
 
-fn main() {
-    let mut words = words_room();
-    let n = numbers_read(&mut words);
-    let mut extents = extents_room();
-    let mut starts = rows_room();
-    let mut files = rows_room();
-    report(replayed(&words[0..n], &mut extents, &mut starts, &mut files));
-}
-
-fn words_room() -> [u64; 40000] {
-    [0; 40000]
-}
-
-// 64 rows of extents, and eight numbers behind them.
-fn extents_room() -> [u64; 7688] {
-    [7; 7688]
-}
-
-// The same of starts or file offsets.
-fn rows_room() -> [u64; 3848] {
-    [7; 3848]
-}
-
-fn report(tally: Tally) {
-    tell(b"open", tally, 1);
-    tell(b"create", tally, 2);
-    tell(b"grow", tally, 3);
-    tell(b"publish", tally, 4);
-    tell(b"drop", tally, 5);
-    tell(b"cap", tally, 6);
-    tell(b"locate", tally, 7);
-    tell(b"region", tally, 8);
-    tell(b"of no call", tally, 0);
-}
-
-// Writes how many cases of a call are answered alike, and how many there are.
-fn tell(name: &[u8], tally: Tally, number: u64) {
-    io::write_all(1, name);
-    io::write_all(1, b" ");
-    io::print_decimal(1, tally.alike(number));
-    io::write_all(1, b" of ");
-    io::print_decimal(1, tally.cases(number));
-    io::write_all(1, b" as by the model\n");
-}
-
-// Counts the cases of each call, and those that are answered alike.
-fn replayed(words: &[u64], extents: &mut [u64], starts: &mut [u64], files: &mut [u64]) -> Tally {
-    let mut state = State::new();
-    let mut i = 0;
-    while i < words.len() {
-        let rest = &words[i..];
-        state = replay(state, rest, extents, starts, files);
-        i = words.len() - past_list(rest).len();
-    }
-    state.tally
+fn main(rt: HostRuntime) {
+    let calls = [
+        ("open", 1),
+        ("create", 2),
+        ("grow", 3),
+        ("publish", 4),
+        ("drop", 5),
+        ("cap", 6),
+        ("locate", 7),
+        ("region", 8),
+        ("of no call", 0),
+    ];
+    report::run(&rt, &mut State::new(), &calls, "the model");
 }

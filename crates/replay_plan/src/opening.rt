@@ -3,134 +3,129 @@
 // then what is seen. A record: its number and tag, its name's length, its entry and its header in order,
 // and 24 bytes for the name.
 use crate::figures;
-use crate::figures::tag_of;
-use crate::state::Replayed;
-use flat_plan::{FlatRecord, flat_reply, records_from};
+use crate::state::State;
+use flat_plan::{FlatRecord, records_from};
 use footprint::Limits;
-use plan_record::{Outcome, Plan, Record};
-use sample::words::{at, bytes_in, first, front, nth_list, past, past_lists, whole};
+use plan_open::Opening;
+use plan_record::{Outcome, Record};
+use sample::Number;
+use sample::words::{at, converted, front, list, nth_list, past, past_lists, whole};
+use std::array;
 
-pub(crate) fn replay(
-    plan: Plan,
-    case: &[u64],
-    extents: &mut [u64],
-    starts: &mut [u64],
-    files: &mut [u64],
-) -> Replayed {
+#[derive(Clone, Copy)]
+struct OpenCase<'a> {
+    limits: Limits,
+    asked: u32,
+    scratch: u64,
+    extents: u64,
+    starts: u64,
+    files: u64,
+    count: u64,
+    listed: &'a [u64],
+    records: &'a [u64],
+    due: &'a [u64],
+}
+
+// The open, where the lists have so many numbers, and all records are there.
+fn read(numbers: &[u64]) -> Option<OpenCase<'_>> {
+    let lists = past(numbers, 9);
+    let case = OpenCase {
+        limits: Limits {
+            log2_block: u8::try_from(at(numbers, 0)).ok()?,
+            table_end: at(numbers, 1),
+            file_len: at(numbers, 2),
+        },
+        asked: u32::try_from(at(numbers, 3)).ok()?,
+        scratch: at(numbers, 4),
+        extents: at(numbers, 5),
+        starts: at(numbers, 6),
+        files: at(numbers, 7),
+        count: at(numbers, 8),
+        listed: list(lists),
+        records: nth_list(lists, 0, 1),
+        due: past_lists(lists, 0, 2),
+    };
+    let fits = case.scratch <= 8192
+        && case.extents <= 7688
+        && case.starts <= 3848
+        && case.files <= 3848
+        && whole(lists, 0, 0, 20000, u64::MAX)
+        && whole(lists, 0, 1, 2752, u64::MAX)
+        && case.records.len() as u64 == 43 * case.count.min(64);
+    fits.then_some(case)
+}
+
+// The state after an open; answers whether it was answered alike.
+pub(crate) fn replay(state: &mut State, numbers: &[u64]) -> bool {
+    let Some(case) = read(numbers) else {
+        return false;
+    };
     let mut scratch = scratch_room();
     let outcome = answered(
         case,
-        front(&mut scratch, at(case, 5)),
-        front(extents, at(case, 6)),
-        front(starts, at(case, 7)),
-        front(files, at(case, 8)),
+        front(&mut scratch, case.scratch),
+        front(&mut state.extents, case.extents),
+        front(&mut state.starts, case.starts),
+        front(&mut state.files, case.files),
     );
-    let reply = outcome.reply;
-    let told = flat_reply(reply);
-    let after = outcome.plan;
-    let kept = chosen(told.kind == 2, plan, after);
-    Replayed {
-        alike: known(case)
-            && figures::alike(kept, told, tag_of(at(case, 4)), past_lists(case, 10, 2)),
-        plan: kept,
+    // A refused open leaves the plan that there was.
+    if outcome.reply.is_ok() {
+        state.plan = outcome.plan;
     }
+    figures::alike(state.plan, outcome.reply, case.asked, case.due)
 }
 
 fn scratch_room() -> [u64; 8192] {
     [7; 8192]
 }
 
-// A refused open leaves the plan that there was.
-fn chosen(refused: bool, before: Plan, after: Plan) -> Plan {
-    if refused {
-        return before;
-    }
-    after
-}
-
-// Whether the lists have so many numbers, and all records are there.
-fn known(case: &[u64]) -> bool {
-    at(case, 1) <= 255
-        && at(case, 4) < 0x1_0000_0000
-        && at(case, 5) <= 8192
-        && at(case, 6) <= 7688
-        && at(case, 7) <= 3848
-        && at(case, 8) <= 3848
-        && whole(case, 10, 0, 20000, 0xffff_ffff_ffff_ffff)
-        && whole(case, 10, 1, 2752, 0xffff_ffff_ffff_ffff)
-        && counted(at(case, 9), nth_list(case, 10, 1).len() as u64)
-}
-
-fn counted(count: u64, numbers: u64) -> bool {
-    if count > 64 {
-        return numbers == 2752;
-    }
-    numbers == 43 * count
-}
-
 fn answered(
-    case: &[u64],
+    case: OpenCase,
     scratch: &mut [u64],
     extents: &mut [u64],
     starts: &mut [u64],
     files: &mut [u64],
 ) -> Outcome {
-    let limits = Limits {
-        log2_block: byte(at(case, 1)),
-        table_end: at(case, 2),
-        file_len: at(case, 3),
+    // A count above 64 is one of more than 64 records.
+    let records = records_in(case.records);
+    let many = [Record::blank(); 65];
+    let opening = Opening {
+        limits: case.limits,
+        records: records.get(..case.count as usize).unwrap_or(&many),
+        listed: case.listed,
     };
-    let listed = nth_list(case, 10, 0);
-    let records = records_in(nth_list(case, 10, 1));
-    let count = at(case, 9) as usize;
-    plan_open::open(
-        limits, records, count, listed, scratch, extents, starts, files,
-    )
-}
-
-fn byte(number: u64) -> u8 {
-    (number % 256) as u8
-}
-
-fn short(number: u64) -> u16 {
-    (number % 65536) as u16
+    plan_open::open(opening, scratch, extents, starts, files)
 }
 
 fn records_in(numbers: &[u64]) -> [Record; 64] {
-    let none = record_in(numbers);
-    let mut records = [none; 64];
-    let mut i = 0;
-    while i < 64 {
-        records[i] = record_in(past(numbers, 43 * i as u64));
-        i += 1;
-    }
-    records_from(records)
+    let each = numbers.as_chunks::<43>().0;
+    records_from(array::from_fn(|i| record_in(each.get(i).unwrap_or(&[0; 43]))))
 }
 
-// The record that numbers begin with.
-fn record_in(numbers: &[u64]) -> FlatRecord {
+// The record that the numbers say.
+fn record_in(numbers: &[u64; 43]) -> FlatRecord {
     let mut name = [0u8; 24];
-    bytes_in(first(past(numbers, 19), 24), &mut name);
+    converted(&numbers[19..], &mut name);
     FlatRecord {
-        number: at(numbers, 0),
-        tag: tag_of(at(numbers, 1)),
+        number: numbers[0],
+        tag: u32::of(numbers[1]),
         name,
-        name_len: byte(at(numbers, 2)),
-        kind: byte(at(numbers, 3)),
-        flags: byte(at(numbers, 4)),
-        extent_count: short(at(numbers, 5)),
-        header_a: at(numbers, 6),
-        header_b: at(numbers, 7),
-        span_start: at(numbers, 8),
-        span_end: at(numbers, 9),
-        data_size: at(numbers, 10),
-        capacity: at(numbers, 11),
-        footprint_seq: at(numbers, 12),
-        hnumber: at(numbers, 13),
-        hkind: byte(at(numbers, 14)),
-        hflags: byte(at(numbers, 15)),
-        hready: at(numbers, 16) == 1,
-        hlog2: byte(at(numbers, 17)),
-        hcount: short(at(numbers, 18)),
+        name_len: u8::of(numbers[2]),
+        kind: u8::of(numbers[3]),
+        flags: u8::of(numbers[4]),
+        extent_count: u16::of(numbers[5]),
+        header_a: numbers[6],
+        header_b: numbers[7],
+        span_start: numbers[8],
+        span_end: numbers[9],
+        data_size: numbers[10],
+        capacity: numbers[11],
+        footprint_seq: numbers[12],
+        hnumber: numbers[13],
+        hkind: u8::of(numbers[14]),
+        hflags: u8::of(numbers[15]),
+        hready: numbers[16] == 1,
+        hlog2: u8::of(numbers[17]),
+        hcount: u16::of(numbers[18]),
     }
 }

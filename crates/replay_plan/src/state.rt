@@ -1,72 +1,67 @@
 // What goes from case to case, and which function replays a case.
 use crate::{call, look, opening};
 use plan_record::Plan;
-use sample::Tally;
-use sample::words::{at, list};
+use sample::Case;
+use sample::report::Replay;
 
 #[derive(Clone, Copy)]
-pub(crate) struct State {
-    pub(crate) tally: Tally,
-    plan: Plan,
+pub(crate) enum Kind {
+    Open,
+    Create,
+    Grow,
+    Publish,
+    Drop,
+    Cap,
+    Locate,
+    Region,
 }
 
-// The plan after a case, and whether the case was answered alike.
+impl TryFrom<u64> for Kind {
+    type Error = ();
+
+    fn try_from(number: u64) -> Result<Kind, ()> {
+        match number {
+            1 => Ok(Kind::Open),
+            2 => Ok(Kind::Create),
+            3 => Ok(Kind::Grow),
+            4 => Ok(Kind::Publish),
+            5 => Ok(Kind::Drop),
+            6 => Ok(Kind::Cap),
+            7 => Ok(Kind::Locate),
+            8 => Ok(Kind::Region),
+            _ => Err(()),
+        }
+    }
+}
+
+// The plan, and the lists that are lent with it: 64 rows each, and eight numbers behind them.
 #[derive(Clone, Copy)]
-pub(crate) struct Replayed {
-    pub(crate) alike: bool,
+pub(crate) struct State {
     pub(crate) plan: Plan,
+    pub(crate) extents: [u64; 7688],
+    pub(crate) starts: [u64; 3848],
+    pub(crate) files: [u64; 3848],
 }
 
 impl State {
     // The state before the first case.
     pub(crate) fn new() -> State {
         State {
-            tally: Tally::new(),
             plan: Plan::blank(),
+            extents: [7; 7688],
+            starts: [7; 3848],
+            files: [7; 3848],
         }
     }
 }
 
-// The state after the case that w begins with: its length, and so many numbers, its call's and what that
-// call's file says.
-pub(crate) fn replay(
-    mut state: State,
-    w: &[u64],
-    extents: &mut [u64],
-    starts: &mut [u64],
-    files: &mut [u64],
-) -> State {
-    let case = list(w);
-    let plan = state.plan;
-    let after = answered(plan, case, extents, starts, files);
-    let next = after.plan;
-    state.plan = next;
-    let whole = case.len() as u64 == at(w, 0);
-    let tally = state.tally;
-    state.tally = tally.counted(known(at(case, 0)), after.alike && whole);
-    state
-}
-
-// The call's number, 0 where there is no such call.
-fn known(code: u64) -> u64 {
-    if code > 8 {
-        return 0;
-    }
-    code
-}
-
-fn answered(
-    plan: Plan,
-    case: &[u64],
-    extents: &mut [u64],
-    starts: &mut [u64],
-    files: &mut [u64],
-) -> Replayed {
-    let code = at(case, 0);
-    match code {
-        1 => opening::replay(plan, case, extents, starts, files),
-        2..=7 => call::replay(plan, case, extents, starts, files),
-        8 => look::replay(plan, case, extents),
-        _ => Replayed { alike: false, plan },
+impl Replay for State {
+    fn replay(&mut self, case: Case<'_>) -> Option<bool> {
+        let alike = match Kind::try_from(case.kind).ok()? {
+            Kind::Open => opening::replay(self, case.call),
+            Kind::Region => look::alike(self, case.call),
+            kind => call::replay(self, kind, case.call),
+        };
+        Some(alike)
     }
 }

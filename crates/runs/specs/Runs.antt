@@ -1,11 +1,9 @@
 -- Document 01, "Runs, same file": the runs of a list of extents.
 use Rattle.std.specs.Prelude.{ℕ, ◌+◌, ◌-◌, ◌≤◌, ◌<◌, Bool, cond, ◌&&◌, ◌||◌, List, [], ◌∷◌, map, ◌≡◌, ltb, leb, eqb, length}
-use Rattle.runs.specs.declared.RunCount.{RunCount}
-use Rattle.runs.specs.declared.RunCount.TheVariants.{Runs, Refused}
 use Rattle.numbers.specs.Lists.{list_after}
 use Rattle.numbers.specs.Pairs.{is_odd, pairs}
 use Rattle.numbers.specs.Range.{Range, range}
-use Rattle.numbers.specs.Refusals.{refuse, Answer, accepted, refused, answer}
+use Rattle.numbers.specs.Refusals.{refuse, Answer, answer}
 use Rattle.numbers.specs.Sums.{top, stop}
 
 -- "A run is its start .., file offset and length."
@@ -66,11 +64,6 @@ run_byte r p = r.file + (p - r.start)
 -- Refusal 1 of `runs`: "a list of pairs is odd", or a lent list has "fewer places than: the extents".
 unfoldable pub runs_fail : List ℕ → ℕ → ℕ → ℕ → Bool
 runs_fail xs s f l = is_odd xs || ltb s (length (pairs xs)) || ltb f (length (pairs xs)) || ltb l (length (pairs xs))
-
--- How many runs were written, or document 01's number.
-abbrev pub count_of : RunCount → Answer ℕ
-count_of (Runs n) = accepted n
-count_of (Refused n) = refused n
 
 -- What `runs` answers.
 abbrev pub runs_answer : List ℕ → ℕ → ℕ → ℕ → Answer ℕ

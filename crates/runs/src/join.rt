@@ -1,11 +1,11 @@
 // Extents that follow one another in the file, joined to runs.
 ghost use Rattle.std.specs.Prelude.{◌≡◌, ◌<◌, ◌≤◌, length};
 ghost use Rattle.numbers.specs.Range.{range};
-ghost use Rattle.numbers.specs.Pairs.{pairs};
+ghost use Rattle.numbers.specs.Pairs.{ranges_in};
 ghost use Rattle.runs.specs.Runs.{joins};
 ghost use Rattle.runs.specs.Inner.{Reached, Joined};
 
-use numbers::{add_stop, passes};
+use numbers::passes;
 
 // Whether an extent (next, more) goes on where a run (file, len) ends, and neither sum passes
 // 2^64 - 1. A run that ends at an offset ends below that.
@@ -29,53 +29,52 @@ struct Stretch {
 }
 
 // The run that begins with the extent i.
-fn reach(extents: &[u64], i: usize) -> Stretch
-    requires { i < length (pairs extents.now) }
-    ensures { Reached (pairs extents.now) i result.len result.next }
+fn reach(extents: &[[u64; 2]], i: usize) -> Stretch
+    requires { i < length extents.now }
+    ensures { Reached (ranges_in extents.now) i result.len result.next }
 {
-    let n = extents.len() / 2;
-    let file = extents[2 * i];
-    let mut len = extents[2 * i + 1];
-    let mut j = i + 1;
-    while j < n {
-        let more = extents[2 * j + 1];
+    let [file, mut len] = extents[i];
+    for j in i + 1..extents.len() {
+        let [next, more] = extents[j];
         if more == 0 {
-            j += 1;
             continue;
         }
-        if !follows(file, len, extents[2 * j], more) {
+        if !follows(file, len, next, more) {
             return Stretch { len, next: j };
         }
         len += more;
-        j += 1;
     }
-    Stretch { len, next: j }
+    Stretch {
+        len,
+        next: extents.len(),
+    }
 }
 
-// Writes the runs, and answers how many there are.
+// Writes the runs, and answers how many there are. A turn goes from one run to the next, over as many
+// extents as it has, so that no `for` counts them.
 pub(crate) fn join(
-    extents: &[u64],
+    extents: &[[u64; 2]],
     starts: &mut [u64],
     files: &mut [u64],
     lens: &mut [u64],
 ) -> usize
-    requires { (length (pairs extents.now) ≤ length starts.old) × (length (pairs extents.now) ≤ length files.old) × (length (pairs extents.now) ≤ length lens.old) }
-    ensures { Joined (pairs extents.now) starts.old starts.new files.old files.new lens.old lens.new result }
+    requires { (length extents.now ≤ length starts.old) × (length extents.now ≤ length files.old) × (length extents.now ≤ length lens.old) }
+    ensures { Joined (ranges_in extents.now) starts.old starts.new files.old files.new lens.old lens.new result }
 {
-    let n = extents.len() / 2;
-    let mut start = 0;
+    let mut start: u64 = 0;
     let mut k = 0;
     let mut i = 0;
-    while i < n {
-        if extents[2 * i + 1] == 0 {
+    while i < extents.len() {
+        let [file, len] = extents[i];
+        if len == 0 {
             i += 1;
             continue;
         }
         let run = reach(extents, i);
         starts[k] = start;
-        files[k] = extents[2 * i];
+        files[k] = file;
         lens[k] = run.len;
-        start = add_stop(start, run.len);
+        start = start.saturating_add(run.len);
         k += 1;
         i = run.next;
     }

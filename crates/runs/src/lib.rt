@@ -3,33 +3,26 @@
 
 mod join;
 
-ghost use Rattle.runs.specs.Runs.{Listed, count_of};
+ghost use Rattle.numbers.specs.Refusals.{told};
+ghost use Rattle.runs.specs.Runs.{Listed};
 
 use join::join;
+use numbers::{Refusal, pairs_of};
 
-// How many runs were written, or document 01's refusal.
-#[derive(Clone, Copy)]
-pub enum RunCount {
-    Runs(usize),
-    Refused(u64),
-}
-
-// The runs of extents, each as its start, its file offset and its length.
-pub fn runs(extents: &[u64], starts: &mut [u64], files: &mut [u64], lens: &mut [u64]) -> RunCount
-    ensures { Listed extents.now starts.old starts.new files.old files.new lens.old lens.new (count_of result) }
+// The runs of extents, each as its start, its file offset and its length; answers how many there are. Three
+// lists are lent, since searches go over plain starts.
+pub fn runs(
+    extents: &[u64],
+    starts: &mut [u64],
+    files: &mut [u64],
+    lens: &mut [u64],
+) -> Result<usize, Refusal>
+    ensures { Listed extents.now starts.old starts.new files.old files.new lens.old lens.new (told result) }
 {
-    if extents.len() % 2 != 0 {
-        return RunCount::Refused(1);
+    let pairs = pairs_of(extents)?;
+    let n = pairs.len();
+    if starts.len() < n || files.len() < n || lens.len() < n {
+        return Err(Refusal::Lists);
     }
-    let n = extents.len() / 2;
-    if starts.len() < n {
-        return RunCount::Refused(1);
-    }
-    if files.len() < n {
-        return RunCount::Refused(1);
-    }
-    if lens.len() < n {
-        return RunCount::Refused(1);
-    }
-    RunCount::Runs(join(extents, starts, files, lens))
+    Ok(join(pairs, starts, files, lens))
 }

@@ -7,11 +7,14 @@ use native.Mathlib.Nat.{add-zero, zero-add}
 use native.Mathlib.Numerals.{add-one}
 use native.Mathlib.Omega.{arith}
 use lib.Dec.{leb}
-use lib.ListN.{length, get_or, take, drop, set, length-set, take-append-drop, drop_of_length-le}
+use lib.ListN.{length, get_or, take, drop, set, length-set, length-append, take-append-drop, drop_of_length-le}
 use lib.Seq.{drop-cons, take-suc-set, drop-set-lt}
 use borrow.Author.Tests.{lt-ltb, le-ltb, leb-true}
 use Rattle.sample.specs.Inner.{fill, Reads}
-use Rattle.sample.specs.Sample.{is_digit, with_digit, numbers_from, numbers_in, Filled}
+use Rattle.sample.specs.Sample.{is_digit, with_digit, finished, numbers_from, numbers_in, Filled}
+use Rattle.std.specs.Option.{unwrap_or}
+use Rattle.std.proofs.Common.{ap, Option, None, Some}
+use Rattle.numbers.proofs.Cases.{by_lt}
 use Rattle.sample.specs.declared.Reading.{Reading}
 
 -- ---- a digit is not below '0'
@@ -48,57 +51,61 @@ fill_is (n ∷ ns) out c (suc k) e =
     let d : drop (c + 1 + k) (set out c n) ≡ drop (c + suc k) out = drop-set-lt (c + 1 + k) out c n (omega arith) ∙ rw z in
     simp (lt-ltb _ _ h) (r ∙ rw (t, d) (append_assoc (take c out) (n ∷ []) (take k ns ++ drop (c + suc k) out)))
 
+-- a number that has ended goes to its place first
+fill_finished :
+    (out : List ℕ) (c : ℕ) (o : Option ℕ) (ns : List ℕ) → c ≤ length out → fill out c (finished o ++ ns) ≡ fill (fill out c (finished o)) (min (c + length (finished o)) (length out)) ns
+unfolding fill
+fill_finished out c None ns h = let e : min (c + 0) (length out) ≡ c = omega arith in rw e
+fill_finished out c (Some v) ns h =
+    by_lt c (length out)
+    (λ l. let e : min (c + 1) (length out) ≡ c + 1 = omega arith in simp (lt-ltb _ _ l, e))
+    (λ l. let e : min (c + 1) (length out) ≡ length out = omega arith in simp (le-ltb _ _ l, e) (sym (fill_full out (length out) ns (omega arith))))
+
+length_fill : (ns out : List ℕ) (c : ℕ) → length (fill out c ns) ≡ length out
+unfolding fill
+length_fill [] out c = refl
+length_fill (n ∷ ns) out c =
+    by_lt c (length out)
+    (λ l. simp (lt-ltb _ _ l) (length_fill ns (set out c n) (c + 1) ∙ length-set out c n))
+    (λ l. simp (le-ltb _ _ l))
+
 -- ---- one byte
 
 module _ (b : ℕ) (r : Reading) (out : List ℕ) (in-out : r.count ≤ length out) where
-  abbrev state : ℕ → Bool → ℕ → Reading
-  state c o v = record { count = c; begun = o; value = v }
-
-  pub digit : (v : ℕ) → is_digit b ≡ true → v ≡ with_digit r.value (b - 48) → Reads b r out (state r.count true v) out
+  pub digit : (v : ℕ) → is_digit b ≡ true → v ≡ with_digit (unwrap_or r.begun 0) (b - 48) → Reads b r out (record { count = r.count; begun = Some v }) out
   unfolding numbers_from
-  digit v e q = record { begun = sym e; inside = in-out; slots = λ bs. simp e (rw q); count = λ bs. simp e (rw q) }
+  digit v e q = record { long = refl; inside = in-out; slots = λ bs. simp e (rw q); count = λ bs. simp e (rw q) }
 
-  module _ (e : is_digit b ≡ false) where
-    pub ends_number : r.begun ≡ true → r.count < length out → Reads b r out (state (r.count + 1) false 0) (set out r.count r.value)
-    unfolding numbers_from fill
-    ends_number o h = record {
-      begun = sym e;
-      inside = rw length-set (omega arith);
-      slots = λ bs. simp (e, o, lt-ltb _ _ h);
-      count = λ bs. simp (e, o) (omega arith);
-    }
-
-    pub no_place : r.begun ≡ true → length out ≤ r.count → Reads b r out (state r.count false 0) out
-    unfolding numbers_from
-    no_place o h = record {
-      begun = sym e;
-      inside = in-out;
-      slots = λ bs. fill_full out r.count _ h ∙ sym (fill_full out r.count _ h);
-      count = λ bs. simp (e, o) (omega arith);
-    }
-
-    pub no_number : r.begun ≡ false → Reads b r out (state r.count false 0) out
-    unfolding numbers_from
-    no_number o = record { begun = sym e; inside = in-out; slots = λ bs. simp (e, o); count = λ bs. simp (e, o) }
+  pub no_digit : (q : Reading) (out' : List ℕ) → is_digit b ≡ false → out' ≡ fill out r.count (finished r.begun) → q.count ≡ min (r.count + length (finished r.begun)) (length out) → q.begun ≡ None → Reads b r out q out'
+  unfolding numbers_from
+  no_digit q out' e s n z =
+      let l : length out' ≡ length out = ap length s ∙ length_fill (finished r.begun) out r.count in
+      record {
+        long = l;
+        inside = omega arith;
+        slots = λ bs. simp (e, z, n, s) (fill_finished out r.count r.begun (numbers_from None bs) in-out);
+        count = λ bs. simp (e, z, n, length-append) (omega arith);
+      }
 
 -- ---- the loop
 
 pub record Going (text out₀ out : List ℕ) (r : Reading) (i : ℕ) : Type 0 where
   pub long : length out ≡ length out₀
   pub inside : r.count ≤ length out
-  pub slots : fill out₀ 0 (numbers_in text) ≡ fill out r.count (numbers_from r.begun r.value (drop i text))
-  pub count : min (length (numbers_in text)) (length out) ≡ min (r.count + length (numbers_from r.begun r.value (drop i text))) (length out)
+  pub slots : fill out₀ 0 (numbers_in text) ≡ fill out r.count (numbers_from r.begun (drop i text))
+  pub count : min (length (numbers_in text)) (length out) ≡ min (r.count + length (numbers_from r.begun (drop i text))) (length out)
 
-pub begins : (text out : List ℕ) → Going text out out (record { count = 0; begun = false; value = 0 }) 0
+pub begins : (text out : List ℕ) → Going text out out (record { count = 0; begun = None }) 0
 begins text out = record { long = refl; inside = omega arith; slots = refl; count = omega arith }
 
-module _ (text out₀ out out' : List ℕ) (r q : Reading) (i : ℕ) (g : Going text out₀ out r i) (n : length out' ≡ length out) where
-  pub turns : i < length text → Reads (get_or text i 0) r out q out' → Going text out₀ out' q (i + 1)
-  turns h s =
+module _ (text out₀ out : List ℕ) (r : Reading) (i : ℕ) (g : Going text out₀ out r i) where
+  pub turns : (out' : List ℕ) (q : Reading) → i < length text → Reads (get_or text i 0) r out q out' → Going text out₀ out' q (i + 1)
+  turns out' q h s =
       let d : drop i text ≡ get_or text i 0 ∷ drop (i + 1) text = rw add-one (drop-cons text i 0 h) in
       let a = rw d at g.slots in
       let c = rw d at g.count in
       let e = s.count (drop (i + 1) text) in
+      let n = s.long in
       record {
         long = n ∙ g.long;
         inside = s.inside;
@@ -106,22 +113,15 @@ module _ (text out₀ out out' : List ℕ) (r q : Reading) (i : ℕ) (g : Going 
         count = omega arith;
       }
 
-  -- a space ends the last number
-  last : (begun : Bool) (v : ℕ) → numbers_from begun v [] ≡ numbers_from begun v (32 ∷ [])
+  -- the number that the end of the text ends is put too
+  pub ends : (out' : List ℕ) (n : ℕ) → length text ≤ i → out' ≡ fill out r.count (finished r.begun) → n ≡ min (r.count + length (finished r.begun)) (length out) → Filled text out₀ out' n
   unfolding numbers_from
-  last true v = refl
-  last false v = refl
-
-  pub ends : length text ≤ i → Reads 32 r out q out' → Filled text out₀ out' q.count
-  unfolding fill numbers_from
-  ends h s =
+  ends out' n h s m =
       let d : drop i text ≡ [] = drop_of_length-le text h in
-      let none : numbers_from q.begun q.value [] ≡ [] = rw s.begun in
-      let p : fill out₀ 0 (numbers_in text) ≡ out' = rw (d, last r.begun r.value) at g.slots ∙ s.slots [] ∙ rw none in
-      let c = rw (d, last r.begun r.value) at g.count in
-      let k = rw none at (s.count []) in
+      let p : fill out₀ 0 (numbers_in text) ≡ out' = rw d at g.slots ∙ sym s in
+      let c = rw d at g.count in
       let l = g.long in
-      let inside = s.inside in
-      let whole : q.count ≡ min (length (numbers_in text)) (length out₀) = omega arith in
-      let f : fill out₀ 0 (numbers_in text) ≡ take q.count (numbers_in text) ++ drop (0 + q.count) out₀ = fill_is (numbers_in text) out₀ 0 q.count (omega arith) in
-      record { count = whole; slots = sym p ∙ f ∙ rw (zero-add q.count); inside = s.inside }
+      let l' : length out' ≡ length out = ap length s ∙ length_fill (finished r.begun) out r.count in
+      let whole : n ≡ min (length (numbers_in text)) (length out₀) = omega arith in
+      let f : fill out₀ 0 (numbers_in text) ≡ take n (numbers_in text) ++ drop (0 + n) out₀ = fill_is (numbers_in text) out₀ 0 n (omega arith) in
+      record { count = whole; slots = sym p ∙ f ∙ rw (zero-add n); inside = omega arith }

@@ -1,5 +1,5 @@
 -- The decimal numbers of a text, and what reading them leaves in the lent slice.
-use Rattle.std.specs.Prelude.{ℕ, ◌+◌, ◌-◌, ◌*◌, ◌^◌, ◌≤◌, min, Bool, true, false, cond, ◌&&◌, List, [], ◌∷◌, ◌++◌, ◌≡◌, leb, length, take, drop}
+use Rattle.std.specs.Prelude.{ℕ, ◌+◌, ◌-◌, ◌*◌, ◌^◌, ◌≤◌, min, Option, None, Some, unwrap_or, Bool, cond, ◌&&◌, List, [], ◌∷◌, ◌++◌, ◌≡◌, leb, length, take, drop}
 
 -- '0' to '9'.
 abbrev pub is_digit : ℕ → Bool
@@ -9,16 +9,21 @@ is_digit b = leb 48 b && leb b 57
 abbrev pub with_digit : ℕ → ℕ → ℕ
 with_digit v d = min (v * 10 + d) (2 ^ 64 - 1)
 
--- The numbers that the rest of a text completes; begun says that one is being read, and v is its value so far, else 0.
-unfoldable pub numbers_from : Bool → ℕ → List ℕ → List ℕ
-numbers_from begun v [] = cond begun (v ∷ []) []
-numbers_from begun v (b ∷ bs) =
-    cond (is_digit b) (numbers_from true (with_digit v (b - 48)) bs)
-    (cond begun (v ∷ numbers_from false 0 bs) (numbers_from false 0 bs))
+-- The number that ends where no digit follows: the one that is being read, if any.
+abbrev pub finished : Option ℕ → List ℕ
+finished None = []
+finished (Some v) = v ∷ []
+
+-- The numbers that the rest of a text completes, where `begun` is the value so far of the one that is being read.
+unfoldable pub numbers_from : Option ℕ → List ℕ → List ℕ
+numbers_from begun [] = finished begun
+numbers_from begun (b ∷ bs) =
+    cond (is_digit b) (numbers_from (Some (with_digit (unwrap_or begun 0) (b - 48))) bs)
+    (finished begun ++ numbers_from None bs)
 
 -- The numbers of a text: each run of digits is one.
 abbrev pub numbers_in : List ℕ → List ℕ
-numbers_in text = numbers_from false 0 text
+numbers_in text = numbers_from None text
 
 -- As many of the numbers as there are places stand in front, and the other slots keep their content.
 -- `inside` follows from the two, and is stated for those who lend the front.

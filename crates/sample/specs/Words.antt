@@ -1,6 +1,7 @@
 -- Lists of numbers that may be shorter than they say: their parts, and two lists compared.
-use Rattle.std.specs.Prelude.{ℕ, zero, suc, ◌%◌, Bool, not, ◌&&◌, List, map, ltb, leb, length, get_or, take, drop}
-use Rattle.numbers.specs.Lists.{any, same}
+use Rattle.std.specs.Prelude.{ℕ, zero, suc, Bool, ◌&&◌, List, ltb, leb, length, get_or, take, drop}
+use Rattle.std.specs.List.{list_all}
+use Rattle.numbers.specs.Lists.{same}
 
 -- The list that w begins with: its length, and so many numbers.
 abbrev pub list_of : List ℕ → List ℕ
@@ -17,7 +18,7 @@ past_lists (suc n) w = past_list (past_lists n w)
 
 -- Each number is at most top.
 abbrev pub up_to : ℕ → List ℕ → Bool
-up_to top numbers = not (any (λ (n : ℕ). ltb top n) numbers)
+up_to top numbers = list_all (λ (n : ℕ). leb n top) numbers
 
 -- The list that w begins with is whole, all its numbers following its length, and has at most so many, each at most top.
 abbrev pub is_whole : ℕ → ℕ → List ℕ → Bool
@@ -26,7 +27,3 @@ is_whole most top w = ltb (get_or w 0 0) (length w) && leb (get_or w 0 0) most &
 -- Two lists are the same but for the slots from `from` up to `to`.
 abbrev pub same_outside : ℕ → ℕ → List ℕ → List ℕ → Bool
 same_outside from to a b = same (take from a) (take from b) && same (drop to a) (drop to b)
-
--- The numbers as bytes, each modulo 256.
-abbrev pub as_bytes : List ℕ → List ℕ
-as_bytes numbers = map (λ (n : ℕ). n % 256) numbers

@@ -1,22 +1,25 @@
 // The numbers of a text, for the programs that replay stored answers of the Rust.
 #![tactic(auto)]
 
+mod cases;
+mod number;
 pub mod report;
 mod tally;
 pub mod words;
 
-ghost use Rattle.std.specs.Prelude.{true, ◌≡◌, ◌-◌, ◌≤◌, length};
-ghost use Rattle.sample.specs.Sample.{is_digit, with_digit, Filled};
-ghost use Rattle.sample.specs.Inner.{Reads};
+ghost use Rattle.std.specs.Prelude.{true, ◌≡◌, ◌+◌, ◌-◌, ◌≤◌, min, length};
+ghost use Rattle.sample.specs.Sample.{is_digit, with_digit, finished, Filled};
+ghost use Rattle.sample.specs.Inner.{fill, Reads};
 
-pub use tally::Tally;
+pub use cases::{Case, Cases};
+pub use number::Number;
+pub use tally::{Count, Tally};
 
-// How many numbers were read; whether one is begun, and its value so far, else 0.
+// How many numbers were read, and the value so far of the one that is begun.
 #[derive(Clone, Copy)]
 struct Reading {
     count: usize,
-    begun: bool,
-    value: u64,
+    begun: Option<u64>,
 }
 
 // The decimal numbers of text, in order, at the front of out, as many as fit; answers how many. Any
@@ -24,53 +27,46 @@ struct Reading {
 pub fn numbers_in(text: &[u8], out: &mut [u64]) -> usize
     ensures { Filled text.now out.old out.new result }
 {
-    let mut r = Reading {
+    let mut reading = Reading {
         count: 0,
-        begun: false,
-        value: 0,
+        begun: None,
     };
-    let mut i = 0;
-    while i < text.len() {
-        r = read(out, r, text[i]);
-        i += 1;
+    for &byte in text {
+        reading = read(out, reading, byte);
     }
-    r = read(out, r, b' ');
-    r.count
+    put(out, reading.count, reading.begun)
 }
 
-fn read(out: &mut [u64], r: Reading, byte: u8) -> Reading
-    requires { r.count ≤ length out.old }
-    ensures { Reads byte r out.old result out.new }
+fn read(out: &mut [u64], reading: Reading, byte: u8) -> Reading
+    requires { reading.count ≤ length out.old }
+    ensures { Reads byte reading out.old result out.new }
 {
-    let count = r.count;
-    if is_digit(byte) {
+    if byte.is_ascii_digit() {
         return Reading {
-            count,
-            begun: true,
-            value: longer(r.value, byte),
+            count: reading.count,
+            begun: Some(longer(reading.begun.unwrap_or(0), byte)),
         };
     }
-    if r.begun {
-        if count < out.len() {
-            out[count] = r.value;
-            return Reading {
-                count: count + 1,
-                begun: false,
-                value: 0,
-            };
-        }
-    }
     Reading {
-        count,
-        begun: false,
-        value: 0,
+        count: put(out, reading.count, reading.begun),
+        begun: None,
     }
 }
 
-fn is_digit(byte: u8) -> bool
-    ensures { result ≡ is_digit byte }
+// Writes a number that has ended to a place, where there are both; answers the next place.
+#[tactic(auto, unfolding(crate::specs::Inner::fill))]
+fn put(out: &mut [u64], place: usize, number: Option<u64>) -> usize
+    requires { place ≤ length out.old }
+    ensures slots { out.new ≡ fill out.old place (finished number) }
+    ensures next { result ≡ min (place + length (finished number)) (length out.old) }
 {
-    byte >= b'0' && byte <= b'9'
+    match number {
+        Some(n) if place < out.len() => {
+            out[place] = n;
+            place + 1
+        }
+        _ => place,
+    }
 }
 
 // value with one more digit.
@@ -78,9 +74,6 @@ fn longer(value: u64, digit: u8) -> u64
     requires { is_digit digit ≡ true }
     ensures { result ≡ with_digit value (digit - 48) }
 {
-    let d = (digit - b'0') as u64;
-    if value > (0xffff_ffff_ffff_ffff - d) / 10 {
-        return 0xffff_ffff_ffff_ffff;
-    }
-    value * 10 + d
+    let d = u64::from(digit - b'0');
+    value.saturating_mul(10).saturating_add(d)
 }

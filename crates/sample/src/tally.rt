@@ -1,24 +1,50 @@
 // How many cases of each module there are, and how many of them are answered alike.
-ghost use Rattle.std.specs.Prelude.{◌≡◌, ◌<◌, get_or};
-ghost use Rattle.sample.specs.Tally.{place_of, no_cases, with_case};
+ghost use Rattle.std.specs.Prelude.{◌≡◌, ◌<◌, ◌++◌, get_or, Some, decimal, codes};
+ghost use Rattle.sample.specs.Tally.{place_of, none_yet, no_cases, one_more, with_case, with_answer};
 
-use numbers::add_stop;
+use crate::Case;
+use std::fmt;
+
+// The cases of one module.
+#[derive(Clone, Copy, Default)]
+pub struct Count {
+    pub cases: u64,
+    pub alike: u64,
+}
 
 // The numbers of the modules are below 9; at 0 are the cases of no module.
 #[derive(Clone, Copy)]
 pub struct Tally {
-    cases: [u64; 9],
-    alike: [u64; 9],
+    counts: [Count; 9],
 }
 
 fn place_of(number: u64) -> usize
-    ensures value { result ≡ place_of number }
-    ensures upper_bound { result < 9 }
+    ensures place { result ≡ place_of number }
+    ensures below_nine { result < 9 }
 {
-    if number < 9 {
-        return number as usize;
+    if number < 9 { number as usize } else { 0 }
+}
+
+impl Count {
+    // With one case more.
+    fn counted(self, alike: bool) -> Count
+        ensures { result ≡ one_more alike self }
+    {
+        Count {
+            cases: self.cases.saturating_add(1),
+            alike: self.alike.saturating_add(u64::from(alike)),
+        }
     }
-    0
+}
+
+impl fmt::Display for Count {
+    ghost output = { λ c. Some (decimal c.alike ++ (codes " of " ++ decimal c.cases)) };
+
+    fn fmt<W: fmt::Write>(&self, f: &mut fmt::Formatter<W>) -> fmt::Result {
+        let alike = self.alike;
+        let cases = self.cases;
+        write!(f, "{alike} of {cases}")
+    }
 }
 
 impl Tally {
@@ -26,23 +52,24 @@ impl Tally {
         ensures { result ≡ no_cases }
     {
         Tally {
-            cases: [0; 9],
-            alike: [0; 9],
+            counts: [Count::default(); 9],
         }
     }
 
-    pub fn cases(self, number: u64) -> u64
-        ensures { result ≡ get_or self.cases (place_of number) 0 }
+    pub fn count(self, number: u64) -> Count
+        ensures { result ≡ get_or self.counts (place_of number) none_yet }
     {
-        let k = place_of(number);
-        self.cases[k]
+        self.counts[place_of(number)]
     }
 
-    pub fn alike(self, number: u64) -> u64
-        ensures { result ≡ get_or self.alike (place_of number) 0 }
+    // With one case more, answered alike or not, or at 0 where no module answers it.
+    pub fn with(self, case: Case, alike: Option<bool>) -> Tally
+        ensures { result ≡ with_answer case.entry alike self }
     {
-        let k = place_of(number);
-        self.alike[k]
+        match alike {
+            Some(alike) => self.counted(case.kind, case.whole && alike),
+            None => self.counted(0, false),
+        }
     }
 
     // With one case more.
@@ -50,10 +77,7 @@ impl Tally {
         ensures { result ≡ with_case number alike self }
     {
         let k = place_of(number);
-        self.cases[k] = add_stop(self.cases[k], 1);
-        if alike {
-            self.alike[k] = add_stop(self.alike[k], 1);
-        }
+        self.counts[k] = self.counts[k].counted(alike);
         self
     }
 }

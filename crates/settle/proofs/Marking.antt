@@ -1,6 +1,6 @@
 -- The marks: what each is, and how they are written one by one.
-use Prim.Native.Nat.{ℕ, zero, suc, ◌+◌, ◌*◌, ◌/◌, ◌%◌, ◌≤◌, ◌<◌}
-use mathlib.Core.Bool.{Bool, true, false, cond}
+use Prim.Native.Nat.{ℕ, zero, suc, ◌+◌, ◌/◌, ◌%◌, ◌≤◌, ◌<◌}
+use mathlib.Core.Bool.{Bool, true, false}
 use mathlib.Core.List.{List, [], ◌∷◌}
 use mathlib.Core.Path.{◌≡◌, refl, ap, sym, ◌∙◌}
 use native.Mathlib.Nat.{le_of_suc-le-suc, not-suc-le-zero}
@@ -11,8 +11,7 @@ use Rattle.numbers.specs.Lists.{written}
 use Rattle.settle.specs.Inner.{firsts, no_region}
 use Rattle.settle.specs.Regions.{Region}
 use Rattle.settle.specs.Settle.{overlapped, renamed, superseded, mark_of, marks_from, marks_of}
-use Rattle.numbers.proofs.Lists.{written_length, written_next}
-use mir.Val.{bool_byte}
+use Rattle.numbers.proofs.Lists.{written_next}
 
 -- ---- the marks that are promised
 
@@ -87,25 +86,6 @@ none_mark o r s a b c = simp (a, b, c)
 
 -- ---- as the code writes them
 
-pub byte_small : (b : Bool) → bool_byte b ≤ 1
-byte_small true = omega arith
-byte_small false = omega arith
-
-pub mark_bytes : (o r s : Bool) → bool_byte o + 2 * bool_byte r + 4 * bool_byte s ≡ mark_of o r s
-mark_bytes o r s = rw (one o, two r, four s)
-  where
-    one : (b : Bool) → bool_byte b ≡ cond b 1 0
-    one true = refl
-    one false = refl
-
-    two : (b : Bool) → 2 * bool_byte b ≡ cond b 2 0
-    two true = refl
-    two false = refl
-
-    four : (b : Bool) → 4 * bool_byte b ≡ cond b 4 0
-    four true = refl
-    four false = refl
-
 pub firsts_length : (f : ℕ → ℕ) (n : ℕ) → length (firsts f n) ≡ n
 unfolding firsts
 firsts_length f zero = refl
@@ -121,9 +101,6 @@ unfolding firsts
 writing_begins f n m h = record { room = h; upto = omega arith; value = refl }
 
 module _ {f : ℕ → ℕ} {n : ℕ} {m₀ m : List ℕ} {i : ℕ} (g : Writing f n m₀ m i) where
-  pub writing_size : length m ≡ length m₀
-  writing_size = let e = firsts_length f i in ap length g.value ∙ written_length (firsts f i) m₀ (omega (arith, g.upto, g.room))
-
   pub writing_on : (x : ℕ) → i < n → x ≡ f i → Writing f n m₀ (set m i x) (i + 1)
   unfolding firsts
   writing_on x h e =
@@ -133,6 +110,3 @@ module _ {f : ℕ → ℕ} {n : ℕ} {m₀ m : List ℕ} {i : ℕ} (g : Writing 
         upto = omega arith;
         value = rw (g.value, e) (written_next (firsts f i) m₀ i (f i) (firsts_length f i) (omega (arith, g.room))) ∙ ap (λ (k : ℕ). written (firsts f k) m₀) (sym s);
       }
-
-  pub writing_ends : n ≤ i → m ≡ written (firsts f n) m₀
-  writing_ends h = let u = g.upto in let e : i ≡ n = omega arith in g.value ∙ ap (λ (k : ℕ). written (firsts f k) m₀) e

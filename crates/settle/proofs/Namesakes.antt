@@ -11,7 +11,7 @@ use lib.Seq.{length-take-le, split_at, get_or-take, get_or-drop}
 use borrow.Author.Tests.{ltb-true, ltb-false, le-ltb, le-leb, lt-leb, eq-eqb, ne_eqb}
 use Rattle.numbers.specs.Lists.{All, any, keep, same}
 use Rattle.settle.specs.Inner.{Enough, Short, OwnShort, no_region}
-use Rattle.settle.specs.Naming.{name_at, Tagged, Listed, rivals, any_below, outdone}
+use Rattle.settle.specs.Naming.{name_at, rivals, any_below, outdone}
 use Rattle.settle.specs.Regions.{Lent, Region, regions_of}
 use Rattle.settle.specs.Settle.{highest, renamed}
 use Rattle.numbers.proofs.Cases.{cases, by_eq, both_ways}
@@ -141,20 +141,17 @@ module _ {A : Type 0} (g : A → Bool) (d : A) where
 
 -- ---- a record by the lists and as a region
 
-module _ (seqs lens names : List ℕ) (skip seq : ℕ) (name : List ℕ) (j : ℕ) (other : j ≡ skip → ⊥) where
-  rival_is : length (name_at lens names j) ≡ get_or lens j 0 → rivals seqs lens names skip seq name j ≡ (same (name_at lens names j) name && leb seq (get_or seqs j 0))
+module _ (rs : Lent) (skip seq : ℕ) (name : List ℕ) (j : ℕ) (other : j ≡ skip → ⊥) where
+  rival_is : length (name_at rs j) ≡ get_or rs.lens j 0 → rivals rs skip seq name j ≡ (same (name_at rs j) name && leb seq (get_or rs.seqs j 0))
   unfolding rivals
   rival_is e =
-      cases (same (name_at lens names j) name)
+      cases (same (name_at rs j) name)
       (λ t.
-      let q : get_or lens j 0 ≡ length name = sym e ∙ ap length (same_true (name_at lens names j) name t) in
-      simp (ne_eqb j skip other, eq-eqb (get_or lens j 0) (length name) q, t, and-true))
+      let q : get_or rs.lens j 0 ≡ length name = sym e ∙ ap length (same_true (name_at rs j) name t) in
+      simp (ne_eqb j skip other, eq-eqb (get_or rs.lens j 0) (length name) q, t, and-true))
       (λ t. simp (t, and-false))
 
 module _ (g : Lent) (enough : Enough g) where
-  pub listed : (tags : List ℕ) → g.count ≤ length tags → Tagged g.count g.lens g.names tags → Listed g.count g.seqs g.lens g.names tags
-  listed tags h t = record { few = enough.few; seqs_in = enough.seqs; lens_in = enough.lens; names_in = enough.names; tags_in = h; tagged = t }
-
   module _ (j : ℕ) (h : j < g.count) where
     at_len : (P : ℕ → Type 0) → All P (take g.count g.lens) → P (get_or g.lens j 0)
     at_len P a =
@@ -163,7 +160,7 @@ module _ (g : Lent) (enough : Enough g) where
     pub short_at : Short g → get_or g.lens j 0 ≤ 24
     short_at a = at_len (λ (n : ℕ). n ≤ 24) a
 
-    long_at : get_or g.lens j 0 ≤ 24 → length (name_at g.lens g.names j) ≡ get_or g.lens j 0
+    long_at : get_or g.lens j 0 ≤ 24 → length (name_at g j) ≡ get_or g.lens j 0
     long_at s = simp (length-take, length-drop) (omega (arith, enough.names))
 
 module _ (us un : Lent) (enough : Enough us) (own-enough : Enough un) (short : Short us) (own_short : OwnShort un) (i : ℕ) (h : i < us.count) where
@@ -171,14 +168,14 @@ module _ (us un : Lent) (enough : Enough us) (own-enough : Enough un) (short : S
   it = get_or (regions_of us) i no_region
 
   abbrev name : List ℕ
-  name = name_at us.lens us.names i
+  name = name_at us i
 
   abbrev seq : ℕ
   seq = get_or us.seqs i 0
 
   -- how the code sees a record of the kind g
   abbrev seen : Lent → ℕ → ℕ → Bool
-  seen g skip j = rivals g.seqs g.lens g.names skip seq name j
+  seen g skip j = rivals g skip seq name j
 
   short_us : (j : ℕ) → j < us.count → get_or us.lens j 0 ≤ 24
   short_us j k = short_at us enough j k short
@@ -186,9 +183,9 @@ module _ (us un : Lent) (enough : Enough us) (own-enough : Enough un) (short : S
   near : any_below (seen us i) us.count ≡ (any (alike it) (take i (regions_of us)) || any (alike it) (drop (suc i) (regions_of us)))
   near =
       others_by_index (alike it) no_region (seen us i) (regions_of us) us.count i (length_of us) h
-      (rival_itself us.seqs us.lens us.names i seq name i refl)
+      (rival_itself us i seq name i refl)
       (λ j k d.
-      rival_is us.seqs us.lens us.names i seq name j d (long_at us enough j k (short_us j k))
+      rival_is us i seq name j d (long_at us enough j k (short_us j k))
       ∙ rw (region_of us j k, region_of us i h))
 
   abbrev alike_too : Region → Bool
@@ -200,16 +197,16 @@ module _ (us un : Lent) (enough : Enough us) (own-enough : Enough un) (short : S
       (λ j k.
       ⊎_elim
       (λ s.
-      rival_is un.seqs un.lens un.names un.count seq name j (λ q. omega arith) (long_at un own-enough j k s)
+      rival_is un un.count seq name j (λ q. omega arith) (long_at un own-enough j k s)
       ∙ rw (region_of un j k, region_of us i h) (simp (ne_eqb (get_or un.lens j 0) 255 (λ q. omega arith))))
       (λ s.
-      rival_longer un.seqs un.lens un.names un.count seq name j (λ q. omega (arith, long_at us enough i h (short_us i h), short_us i h))
+      rival_longer un un.count seq name j (λ q. omega (arith, long_at us enough i h (short_us i h), short_us i h))
       ∙ rw (region_of un j k) (simp (eq-eqb (get_or un.lens j 0) 255 s)))
       (at_len un own-enough j k (λ (n : ℕ). (n ≤ 24) ⊎ (n ≡ 255)) own_short))
 
   -- what the code finds
   pub renamed_is :
-      outdone i us.count us.seqs us.lens us.names un.count un.seqs un.lens un.names
+      outdone us un i
       ≡ renamed (regions_of us) (regions_of un) (get_or (regions_of us) i no_region)
   renamed_is =
       rw (near, far) (or_assoc (any (alike it) (take i (regions_of us))) (any (alike it) (drop (suc i) (regions_of us))) (any alike_too (regions_of un)))

@@ -7,10 +7,12 @@ use lib.ListN.{length, get_or, take, drop, length-append, length-drop, length-ma
 use lib.Seq.{get_or-take, get_or-drop, length-take-le, take_at, drop_at}
 use Rattle.numbers.specs.Pairs.{pairs}
 use Rattle.numbers.specs.Range.{Range, range, blank, end_of}
-use Rattle.numbers.specs.Sums.{sum}
-use Rattle.settle.specs.Inner.{Sized}
+use Rattle.numbers.specs.Refusals.{Answer}
+use Rattle.numbers.specs.Sums.{stop, sum}
+use Rattle.settle.specs.Inner.{Enough, Roomy}
 use Rattle.settle.specs.Laying.{Laid, Ordered, no_piece}
-use Rattle.settle.specs.Regions.{Piece, piece, pieces, pieces_from, regions}
+use Rattle.settle.specs.Regions.{Lent, Piece, piece, pieces, pieces_from, regions, regions_of}
+use Rattle.settle.specs.Settle.{range_count}
 use Rattle.sort.specs.Sort.{Sorted, sorted}
 use Rattle.numbers.proofs.Pairs.{even_list, length_pairs, pairs_append, pairs_take, pairs_drop}
 use Rattle.settle.proofs.Laying.{laid_more}
@@ -30,7 +32,7 @@ pieces_length (suc n) seqs (c ∷ counts) rs lens names i h b =
     length-append (map (piece i (get_or seqs 0 0)) (take c rs)) (pieces_from (suc i) (regions n (drop 1 seqs) counts (drop c rs) (drop 1 lens) (drop 24 names))) ∙ omega arith
 
 -- scratch after the sort of its first half
-module _ (ps : List Piece) (n : ℕ) (s₀ s ys : List ℕ) (r : ℕ) (e : length ps ≡ n) (size : length s₀ ≡ 4 * n) (g : Laid ps 0 n s₀ s) (h : Sorted (take (2 * n - 0) s) ys r) where
+module _ (ps : List Piece) (n : ℕ) (s₀ s ys : List ℕ) (r : Answer (Unit {0})) (e : length ps ≡ n) (size : length s₀ ≡ 4 * n) (g : Laid ps 0 n s₀ s) (h : Sorted (take (2 * n - 0) s) ys r) where
   front : take (2 * n - 0) s ≡ take (2 * n) s
   front = let q : 2 * n - 0 ≡ 2 * n = omega arith in ap (λ (m : ℕ). take m s) q
 
@@ -79,33 +81,34 @@ module _ (ps : List Piece) (n : ℕ) (s₀ s ys : List ℕ) (r : ℕ) (e : lengt
         zero_ends k i = ap (λ (j : ℕ). get_or (pairs s) (n + j) blank) (sym (none k)) ∙ g.ends k i
 
 -- both kinds, one behind the other
-module _ (u v first n : ℕ) (counts rs own own-rs : List ℕ) (z : Sized u counts rs) (z' : Sized v own own-rs)
-    (f : first ≡ sum (take u counts)) (m : n ≡ first + sum (take v own)) where
-  pub lay_first : (s₀ : List ℕ) → length s₀ ≡ 4 * n → (u ≤ length counts) × (u + 0 ≤ 2048) × (sum (take u counts) ≤ length (pairs rs)) × (0 + sum (take u counts) ≤ n) × (n + n ≤ length (pairs s₀))
-  lay_first s₀ e = let l = length_pairs s₀ in (z.counts_in, omega (arith, z.few), z.ranges_in, omega arith, omega arith)
+pub counted : {us un : Lent} {k first : ℕ} → Roomy us un k → first ≡ stop (range_count us) → first ≡ range_count us
+counted z e = omega (arith, z.few)
 
-  pub lay_second : (s₁ : List ℕ) → length s₁ ≡ 4 * n → (v ≤ length own) × (v + u ≤ 2048) × (sum (take v own) ≤ length (pairs own-rs)) × (first + sum (take v own) ≤ n) × (n + n ≤ length (pairs s₁))
-  lay_second s₁ e = let l = length_pairs s₁ in (z'.counts_in, omega (arith, z.few, z'.few), z'.ranges_in, omega arith, omega arith)
+module _ (us un : Lent) {k : ℕ} (first n : ℕ) (y : Enough us) (y' : Enough un) (z : Roomy us un k) (four : k ≡ 4 * n) (f : first ≡ range_count us) where
+  pub lay_first : (s₀ : List ℕ) → length s₀ ≡ 4 * n → (us.count + 0 ≤ 2048) × (0 + range_count us ≤ n) × (n + n ≤ length (pairs s₀))
+  lay_first s₀ e = let l = length_pairs s₀ in (omega (arith, y.few), omega (arith, z.space), omega arith)
 
-  module _ (seqs lens names own-seqs own-lens own_names : List ℕ) where
-    abbrev ours : List Piece
-    ours = pieces (regions u seqs counts (pairs rs) lens names)
+  pub lay_second : (s₁ : List ℕ) → length s₁ ≡ 4 * n → (un.count + us.count ≤ 2048) × (first + range_count un ≤ n) × (n + n ≤ length (pairs s₁))
+  lay_second s₁ e = let l = length_pairs s₁ in (omega (arith, y.few, y'.few), omega (arith, z.space), omega arith)
 
-    abbrev theirs : List Piece
-    theirs = pieces_from u (regions v own-seqs own (pairs own-rs) own-lens own_names)
+  abbrev ours : List Piece
+  ours = pieces (regions_of us)
 
-    laid_both : (s₀ s₁ s₂ : List ℕ) → Laid ours 0 n s₀ s₁ → Laid theirs first n s₁ s₂ → Laid (ours ++ theirs) 0 n s₀ s₂
-    laid_both s₀ s₁ s₂ a b =
-        let p = pieces_length u seqs counts (pairs rs) lens names 0 z.counts_in z.ranges_in in
-        laid_more ours theirs 0 first n s₀ s₁ s₂ (omega arith) a b
+  abbrev theirs : List Piece
+  theirs = pieces_from us.count (regions_of un)
 
-    both_length : length (ours ++ theirs) ≡ n
-    both_length =
-        let p = pieces_length u seqs counts (pairs rs) lens names 0 z.counts_in z.ranges_in in
-        let q = pieces_length v own-seqs own (pairs own-rs) own-lens own_names u z'.counts_in z'.ranges_in in
-        length-append ours theirs ∙ omega arith
+  laid_both : (s₀ s₁ s₂ : List ℕ) → Laid ours 0 n s₀ s₁ → Laid theirs first n s₁ s₂ → Laid (ours ++ theirs) 0 n s₀ s₂
+  laid_both s₀ s₁ s₂ a b =
+      let p = pieces_length us.count us.seqs us.counts (pairs us.ranges) us.lens us.names 0 y.counts y.ranges in
+      laid_more ours theirs 0 first n s₀ s₁ s₂ (omega arith) a b
 
-    pub both_ordered : (s₀ s₁ s₂ ys : List ℕ) (r : ℕ) → length s₀ ≡ 4 * n → Laid ours 0 n s₀ s₁ → Laid theirs first n s₁ s₂
-        → Sorted (take (2 * n - 0) s₂) ys r → length ys ≡ length (take (2 * n - 0) s₂)
-        → Ordered (ours ++ theirs) (take n (pairs (ys ++ drop (2 * n - 0) s₂))) (drop n (pairs (ys ++ drop (2 * n - 0) s₂)))
-    both_ordered s₀ s₁ s₂ ys r e a b h d = ordered (ours ++ theirs) n s₀ s₂ ys r both_length e (laid_both s₀ s₁ s₂ a b) h d
+  both_length : length (ours ++ theirs) ≡ n
+  both_length =
+      let p = pieces_length us.count us.seqs us.counts (pairs us.ranges) us.lens us.names 0 y.counts y.ranges in
+      let q = pieces_length un.count un.seqs un.counts (pairs un.ranges) un.lens un.names us.count y'.counts y'.ranges in
+      length-append ours theirs ∙ omega (arith, z.space)
+
+  pub both_ordered : (s₀ s₁ s₂ ys : List ℕ) (r : Answer (Unit {0})) → length s₀ ≡ 4 * n → Laid ours 0 n s₀ s₁ → Laid theirs first n s₁ s₂
+      → Sorted (take (2 * n - 0) s₂) ys r → length ys ≡ length (take (2 * n - 0) s₂)
+      → Ordered (ours ++ theirs) (take n (pairs (ys ++ drop (2 * n - 0) s₂))) (drop n (pairs (ys ++ drop (2 * n - 0) s₂)))
+  both_ordered s₀ s₁ s₂ ys r e a b h d = ordered (ours ++ theirs) n s₀ s₂ ys r both_length e (laid_both s₀ s₁ s₂ a b) h d

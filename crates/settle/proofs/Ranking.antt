@@ -11,7 +11,10 @@ use borrow.Author.Tests.{lt-ltb, le-ltb, ltb-true, lt-leb, le-leb}
 use Rattle.numbers.specs.Lists.{All, Any}
 use Rattle.numbers.specs.Pairs.{is_odd, pairs}
 use Rattle.numbers.specs.Range.{Range, range, blank}
+use Rattle.numbers.specs.Refusals.{Answer}
+use Rattle.settle.specs.Inner.{Enough}
 use Rattle.settle.specs.Ranking.{Keyed, Keys, below, Ranked, Ranks}
+use Rattle.settle.specs.Regions.{Lent}
 use Rattle.sort.specs.Sort.{Ascending, Sorted, sorted}
 use Rattle.numbers.proofs.Cases.{by_eq, by_lt}
 use Rattle.numbers.proofs.Lists.{all_at, all_of, all_imp, any_of, any_at, any_imp, stored_new, stored_old}
@@ -22,28 +25,20 @@ use Rattle.sort.proofs.Laws.{ascending_at, all_sorted, any_sorted, sorted_ascend
 
 -- ---- the keys, one by one
 
-pub record Keying (seqs : List ℕ) (count first : ℕ) (s₀ s : List ℕ) (i : ℕ) : Type 0 where
-  pub enough : count ≤ length seqs
-  pub room : first + count ≤ length (pairs s₀)
-  pub upto : i ≤ count
+pub record Keying (seqs : List ℕ) (first : ℕ) (s₀ s : List ℕ) (i : ℕ) : Type 0 where
+  pub room : first + length seqs ≤ length (pairs s₀)
   pub size : length s ≡ length s₀
   pub new : (j : ℕ) → j < i → get_or (pairs s) (first + j) blank ≡ range (get_or seqs j 0) (first + j)
   pub old : (j : ℕ) → j < first → get_or (pairs s) j blank ≡ get_or (pairs s₀) j blank
 
-pub keying_begins : (seqs : List ℕ) (count first : ℕ) (s : List ℕ) → count ≤ length seqs → first + count ≤ length (pairs s) → Keying seqs count first s s 0
-keying_begins seqs count first s e r =
-    record { enough = e; room = r; upto = omega arith; size = refl; new = λ j h. absurd (omega arith); old = λ j h. refl }
-
-module _ {seqs : List ℕ} {count first : ℕ} {s₀ s : List ℕ} {i : ℕ} (g : Keying seqs count first s₀ s i) where
-  pub keying_in : i < count → first + i < length (pairs s)
+module _ {seqs : List ℕ} {first : ℕ} {s₀ s : List ℕ} {i : ℕ} (g : Keying seqs first s₀ s i) where
+  pub keying_in : i < length seqs → first + i < length (pairs s)
   keying_in h = let e = same_pairs s s₀ g.size in omega (arith, g.room)
 
-  pub keying_on : (s' : List ℕ) → i < count → pairs s' ≡ set (pairs s) (first + i) (range (get_or seqs i 0) (first + i)) → length s' ≡ length s → Keying seqs count first s₀ s' (i + 1)
+  pub keying_on : (s' : List ℕ) → i < length seqs → pairs s' ≡ set (pairs s) (first + i) (range (get_or seqs i 0) (first + i)) → length s' ≡ length s → Keying seqs first s₀ s' (i + 1)
   keying_on s' h e l =
       record {
-        enough = g.enough;
         room = g.room;
-        upto = omega arith;
         size = l ∙ g.size;
         new = λ j b. by_eq j i
             (λ q. stored_new (pairs s) (pairs s') (first + i) (first + j) (range (get_or seqs i 0) (first + i)) blank e (keying_in h) (omega arith)
@@ -51,16 +46,6 @@ module _ {seqs : List ℕ} {count first : ℕ} {s₀ s : List ℕ} {i : ℕ} (g 
             (λ n. stored_old (pairs s) (pairs s') (first + i) (first + j) (range (get_or seqs i 0) (first + i)) blank e (λ q. n (omega arith))
             ∙ g.new j (omega (arith, n)));
         old = λ j b. stored_old (pairs s) (pairs s') (first + i) j (range (get_or seqs i 0) (first + i)) blank e (λ q. omega arith) ∙ g.old j b;
-      }
-
-  pub keying_ends : count ≤ i → Keyed (take count seqs) first s₀ s
-  keying_ends h =
-      let u = g.upto in
-      let t : length (take count seqs) ≡ count = length-take-le count seqs g.enough in
-      record {
-        size = g.size;
-        new = λ j b. g.new j (omega arith) ∙ ap (λ (n : ℕ). range n (first + j)) (sym (get_or-take count seqs j 0 (omega arith)));
-        old = g.old;
       }
 
 -- ---- the walk over the sorted keys
@@ -73,17 +58,6 @@ pub record Walking (keys : List Range) (m : ℕ) (ranks : List ℕ) (rank t : �
   pub lower : (s : ℕ) → s < rank → (get_or keys s blank).offset < (get_or keys rank blank).offset
   pub equal : (s : ℕ) → rank ≤ s → s < t → (get_or keys s blank).offset ≡ (get_or keys rank blank).offset
   pub ranked : (s : ℕ) → s < t → get_or ranks (get_or keys s blank).len 0 ≡ below keys (get_or keys s blank).offset
-
-pub walking_begins : (keys : List Range) (ranks : List ℕ) → Walking keys (length ranks) ranks 0 0
-walking_begins keys ranks =
-    record {
-      size = refl;
-      upto = omega arith;
-      behind = omega arith;
-      lower = λ s h. absurd (omega arith);
-      equal = λ s i h. absurd (omega arith);
-      ranked = λ s h. absurd (omega arith);
-    }
 
 module _ {keys : List Range} {ranks : List ℕ} {m rank t : ℕ} (o : Ascending keys) (k : Keys keys m) (g : Walking keys m ranks rank t) where
   abbrev number : ℕ → ℕ
@@ -204,7 +178,7 @@ keys_sorted l m k =
     Alone keys p = All (λ (q : Range). p.len ≡ q.len → p.offset ≡ q.offset) keys
 
 -- after the sort
-module _ (k₀ k₁ : List ℕ) (n : ℕ) (h : Sorted k₀ k₁ n) (e : is_odd k₀ ≡ false) where
+module _ (k₀ k₁ : List ℕ) (n : Answer (Unit {0})) (h : Sorted k₀ k₁ n) (e : is_odd k₀ ≡ false) where
   pub keys_ready : (m : ℕ) → Keys (pairs k₀) m → Ascending (pairs k₁) × Keys (pairs k₁) m
   keys_ready m k = rw (sorted_pairs k₀ k₁ n h e) (sorted_ascending (pairs k₀), keys_sorted (pairs k₀) m k)
 
@@ -274,34 +248,47 @@ module _ (a b : List ℕ) (u : ℕ) (k₀ k₁ k₂ : List ℕ) (e : u ≡ lengt
         at = λ j i. ap (λ (q : List Range). get_or q j blank) p ∙ get_or-take (length (a ++ b)) (pairs k₂) j blank i ∙ both_at j i;
       }
 
+-- the numbers of one kind, as the code cuts them
+abbrev pub seqs_of : Lent → List ℕ
+seqs_of rs = take rs.count rs.seqs
+
 -- the array of keys has room for both kinds
-pub keys_room : (u : ℕ) → u ≤ 1024 → 0 + u ≤ length (pairs (replicate 4096 0))
-keys_room u h = let e = length_pairs (replicate 4096 0) in let f = length-replicate {A = ℕ} 4096 0 in omega arith
+module _ (us un : Lent) (z : Enough us) (z' : Enough un) where
+  ours : length (seqs_of us) ≡ us.count
+  ours = length-take-le us.count us.seqs z.seqs
 
-pub keys_more : (u v : ℕ) (k : List ℕ) → u ≤ 1024 → v ≤ 1024 → length k ≡ length {A = ℕ} (replicate 4096 0) → u + v ≤ length (pairs k)
-keys_more u v k a b e = let l = length_pairs k in let r = length-replicate {A = ℕ} 4096 0 in omega arith
+  theirs : length (seqs_of un) ≡ un.count
+  theirs = length-take-le un.count un.seqs z'.seqs
 
--- the part that is ranked, as the code cuts it
-module _ (seqs own k₁ k₂ : List ℕ) (u v : ℕ) (few : u ≤ 1024) (few' : v ≤ 1024) (enough : u ≤ length seqs) (enough' : v ≤ length own)
-    (f : Keyed (take u seqs) 0 (replicate 4096 0) k₁) (g : Keyed (take v own) u k₁ k₂) where
-  abbrev part : List ℕ
-  part = take (2 * (u + v) - 0) k₂
+  pub keys_room : 0 + length (seqs_of us) ≤ length (pairs (replicate 4096 0))
+  keys_room =
+      let e = length_pairs (replicate 4096 0) in
+      let f = length-replicate {A = ℕ} 4096 0 in
+      omega (arith, ours, z.few)
 
-  sizes : length (take u seqs ++ take v own) ≡ u + v
-  sizes =
-      let a = length-take-le u seqs enough in
-      let b = length-take-le v own enough' in
-      length-append (take u seqs) (take v own) ∙ omega arith
-
-  pub all_keys : KeysOf (take u seqs ++ take v own) (pairs part)
-  all_keys =
-      let s = sizes in
+  pub keys_more : (k : List ℕ) → length k ≡ length {A = ℕ} (replicate 4096 0) → us.count + length (seqs_of un) ≤ length (pairs k)
+  keys_more k e =
+      let l = length_pairs k in
       let r = length-replicate {A = ℕ} 4096 0 in
-      both_keys (take u seqs) (take v own) u (replicate 4096 0) k₁ k₂ (sym (length-take-le u seqs enough)) f g (2 * (u + v) - 0) (omega arith) (omega arith)
+      omega (arith, theirs, z.few, z'.few)
 
-  pub all_ready : (n : ℕ) → n ≡ 2048 → (is_odd part ≡ false) × Keys (pairs part) n
-  all_ready n e =
-      let s = sizes in
-      let r = length-replicate {A = ℕ} 4096 0 in
-      let l : length part ≡ 2 * (u + v) - 0 = length-take-le (2 * (u + v) - 0) k₂ (omega (arith, g.size, f.size)) in
-      (even_list part (omega arith), keys_of all_keys n (omega arith))
+  -- the part that is ranked, as the code cuts it
+  module _ (k₁ k₂ : List ℕ) (f : Keyed (seqs_of us) 0 (replicate 4096 0) k₁) (g : Keyed (seqs_of un) us.count k₁ k₂) where
+    abbrev part : List ℕ
+    part = take (2 * (us.count + un.count) - 0) k₂
+
+    sizes : length (seqs_of us ++ seqs_of un) ≡ us.count + un.count
+    sizes = length-append (seqs_of us) (seqs_of un) ∙ omega (arith, ours, theirs)
+
+    pub all_keys : KeysOf (seqs_of us ++ seqs_of un) (pairs part)
+    all_keys =
+        let s = sizes in
+        let r = length-replicate {A = ℕ} 4096 0 in
+        both_keys (seqs_of us) (seqs_of un) us.count (replicate 4096 0) k₁ k₂ (sym ours) f g (2 * (us.count + un.count) - 0) (omega arith) (omega (arith, z.few, z'.few))
+
+    pub all_ready : (n : ℕ) → n ≡ 2048 → (is_odd part ≡ false) × Keys (pairs part) n
+    all_ready n e =
+        let s = sizes in
+        let r = length-replicate {A = ℕ} 4096 0 in
+        let l : length part ≡ 2 * (us.count + un.count) - 0 = length-take-le (2 * (us.count + un.count) - 0) k₂ (omega (arith, g.size, f.size, z.few, z'.few)) in
+        (even_list part (omega arith), keys_of all_keys n (omega (arith, z.few, z'.few)))

@@ -1,80 +1,21 @@
 -- Refusal 1: what the tests on counts and lists have found.
 use Prim.Native.Nat.{ℕ, ◌+◌, ◌*◌, ◌/◌, ◌%◌, ◌≤◌, ◌<◌}
 use mathlib.Core.Bool.{Bool, true, false, not, ◌&&◌, and-false, or-true}
-use mathlib.Core.List.{List, [], ◌∷◌}
 use mathlib.Core.Logic.{◌⊎◌, inl, inr, ⊎_elim}
-use mathlib.Core.Path.{◌≡◌, ap, sym, ◌∙◌}
-use native.Mathlib.Numerals.{add-one}
+use mathlib.Core.Path.{◌≡◌, sym, ◌∙◌}
 use native.Mathlib.Omega.{arith}
 use lib.Dec.{eqb, ltb}
-use lib.ListN.{length, get_or, take}
-use lib.Seq.{get_or-take, length-take-le, take-suc}
+use lib.ListN.{length, take}
 use borrow.Author.Tests.{le-ltb, lt-ltb, ltb-true, ltb-false, eqb-true, eq-eqb}
 use Rattle.numbers.specs.Lists.{All, any}
 use Rattle.numbers.specs.Pairs.{pairs}
-use Rattle.numbers.specs.Sums.{top, stop, sum}
+use Rattle.numbers.specs.Sums.{top, stop}
 use Rattle.settle.specs.Inner.{Enough, Short, OwnShort}
 use Rattle.settle.specs.Regions.{Lent}
 use Rattle.settle.specs.Settle.{range_count, too_long, lent_fails, settle_fails}
 use Rattle.numbers.proofs.Cases.{cases, by_lt, clash, or-false}
-use Rattle.numbers.proofs.Lists.{all_append, all_imp, any_of, any_false, of_any, of_none}
+use Rattle.numbers.proofs.Lists.{all_imp, any_false, of_none}
 use Rattle.numbers.proofs.Pairs.{length_pairs, odd_list, even_list}
-use Rattle.numbers.proofs.Sums.{stop_add, sum_next}
-
--- ---- a sum that stops
-
-pub record Summing (count : ℕ) (l : List ℕ) (s i : ℕ) : Type 0 where
-  pub enough : count ≤ length l
-  pub upto : i ≤ count
-  pub value : s ≡ stop (sum (take i l))
-
-pub summing_begins : (count : ℕ) (l : List ℕ) → count ≤ length l → Summing count l 0 0
-unfolding sum
-summing_begins count l h = record { enough = h; upto = omega arith; value = omega arith }
-
-module _ {count : ℕ} {l : List ℕ} {s i : ℕ} (g : Summing count l s i) where
-  pub summing_on : (r : ℕ) → i < count → r ≡ stop (s + get_or l i 0) → Summing count l r (i + 1)
-  summing_on r h e =
-      let n = sum_next l i (omega (arith, g.enough)) in
-      let m = ap (λ (k : ℕ). sum (take k l)) (add-one i) in
-      record {
-        enough = g.enough;
-        upto = omega arith;
-        value = e ∙ ap (λ (k : ℕ). stop (k + get_or l i 0)) g.value ∙ stop_add (sum (take i l)) (get_or l i 0) ∙ ap stop (sym n ∙ sym m);
-      }
-
-  pub summing_ends : count ≤ i → s ≡ stop (sum (take count l))
-  summing_ends h = let u = g.upto in let e : i ≡ count = omega arith in g.value ∙ ap (λ (k : ℕ). stop (sum (take k l))) e
-
--- ---- a search for the first that passes a test
-
-pub record Looking (f : ℕ → Bool) (count : ℕ) (l : List ℕ) (i : ℕ) : Type 0 where
-  pub enough : count ≤ length l
-  pub upto : i ≤ count
-  pub none : All (λ (x : ℕ). f x ≡ false) (take i l)
-
-pub looking_begins : (f : ℕ → Bool) (count : ℕ) (l : List ℕ) → count ≤ length l → Looking f count l 0
-looking_begins f count l h = record { enough = h; upto = omega arith; none = tt }
-
-module _ {f : ℕ → Bool} {count : ℕ} {l : List ℕ} {i : ℕ} (g : Looking f count l i) where
-  pub looking_found : i < count → f (get_or l i 0) ≡ true → any f (take count l) ≡ true
-  looking_found h e =
-      let t = length-take-le count l g.enough in
-      of_any f (take count l) (any_of (λ (x : ℕ). f x ≡ true) (take count l) i 0 (omega arith) (ap f (get_or-take count l i 0 h) ∙ e))
-
-  pub looking_on : i < count → f (get_or l i 0) ≡ false → Looking f count l (i + 1)
-  looking_on h e =
-      record {
-        enough = g.enough;
-        upto = omega arith;
-        none = rw (add-one i, take-suc l i 0 (omega (arith, g.enough))) (all_append (λ (x : ℕ). f x ≡ false) (take i l) (get_or l i 0 ∷ []) g.none (e, tt));
-      }
-
-  pub looking_ends : count ≤ i → any f (take count l) ≡ false
-  looking_ends h =
-      let u = g.upto in
-      let e : i ≡ count = omega arith in
-      rw (sym e) (of_none f (take i l) g.none)
 
 -- ---- one length
 

@@ -10,26 +10,18 @@ use lib.Seq.{ext_get_or, get_or_at, length-take-le}
 use borrow.Author.Tests.{ltb-false, le-ltb}
 use Rattle.numbers.specs.Lists.{written}
 use Rattle.numbers.specs.Pairs.{is_odd}
-use Rattle.numbers.specs.Refusals.{refuse}
+use Rattle.numbers.specs.Refusals.{refused, accepted as accepted_of}
 use Rattle.numbers.specs.Sums.{stop, sum}
-use Rattle.settle.specs.Inner.{Enough, Short, OwnShort, Sized, Struck, firsts}
+use Rattle.settle.specs.Inner.{Enough, Accepted, Roomy, Struck, firsts}
 use Rattle.settle.specs.Naming.{outdone}
 use Rattle.settle.specs.Regions.{Lent, lent, regions, regions_of}
 use Rattle.settle.specs.Settle.{mark_of, marks_of, range_count, settle_fails, Settled}
+use Rattle.numbers.proofs.Answers.{one_passes, one_fails}
 use Rattle.numbers.proofs.Cases.{by_lt, clash, or-false}
 use Rattle.settle.proofs.Marking.{firsts_length, marks_length, mark_at}
 use Rattle.settle.proofs.Namesakes.{renamed_is}
 use Rattle.settle.proofs.Reading.{length_of}
 use Rattle.settle.proofs.Refusing.{passed, short, own_short, short_passes, own_short_passes}
-
-pub record Accepted (us un : Lent) (marks scratch : ℕ) : Type 0 where
-  pub ours : Enough us
-  pub theirs : Enough un
-  pub names : Short us
-  pub own_names : OwnShort un
-  pub few : range_count us + range_count un ≤ 65536
-  pub room : us.count ≤ marks
-  pub space : 16 * (range_count us + range_count un) ≤ scratch
 
 pub accepted : (us un : Lent) (marks scratch : ℕ) → settle_fails us un marks scratch ≡ false → Accepted us un marks scratch
 unfolding settle_fails
@@ -70,34 +62,26 @@ pub none_regions : (seqs counts ranges lens names : List ℕ) → regions_of (le
 unfolding regions
 none_regions seqs counts ranges lens names = refl
 
-pub sized : (g : Lent) → Enough g → Sized g.count g.counts g.ranges
-sized g e = record { few = e.few; counts_in = e.counts; ranges_in = e.ranges }
-
--- the arrays counted by records are long enough, before and after a call
+-- the arrays counted by records are long enough
 pub array_room : {A : Type 0} (z : A) (g : Lent) → Enough g → g.count ≤ length (replicate 1024 z)
 array_room z g e = let r = length-replicate 1024 z in omega (arith, e.few)
-
-pub array_more : {A : Type 0} (z : A) (g : Lent) → Enough g → (l : List A) → length l ≡ length (replicate 1024 z) → g.count ≤ length l
-array_more z g e l q = let r = length-replicate 1024 z in omega (arith, e.few)
-
--- the part of scratch that is lent on
-pub part_size : (s : List ℕ) (n : ℕ) → 4 * n ≤ length s → length (take (4 * n - 0) s) ≡ 4 * n
-part_size s n h = length-take-le (4 * n - 0) s (omega arith) ∙ omega arith
 
 -- ---- the counts, as the code takes them
 
 module _ {us un : Lent} {marks scratch : ℕ} (g : Accepted us un marks scratch) (a b : ℕ) (d : a ≡ stop (range_count us)) (e : b ≡ stop (range_count un)) where
-  pub count_first : a ≡ range_count us
-  count_first = omega (arith, g.few)
-
-  pub count_all : a + b ≡ a + range_count un
-  count_all = omega (arith, g.few)
-
   pub count_few : a + b ≤ 65536
   count_few = omega (arith, g.few)
 
   pub count_space : 4 * (a + b) ≤ scratch
   count_space = omega (arith, g.few, g.space)
+
+  -- the part of scratch that is lent on
+  pub roomy : (s : List ℕ) → length s ≡ scratch → Roomy us un (length (take (4 * (a + b) - 0) s))
+  roomy s l =
+      record {
+        few = g.few;
+        space = length-take-le (4 * (a + b) - 0) s (omega (arith, count_space)) ∙ omega (arith, g.few);
+      }
 
 -- ---- the marks
 
@@ -111,7 +95,7 @@ firsts_at f (suc n) i h =
 
 module _ (us un : Lent) {marks scratch : ℕ} (g : Accepted us un marks scratch) (over under : List Bool) (s : Struck us un over under) where
   abbrev pub found : ℕ → ℕ
-  found i = mark_of (get_or over i false) (outdone i us.count us.seqs us.lens us.names un.count un.seqs un.lens un.names) (get_or under i false)
+  found i = mark_of (get_or over i false) (outdone us un i) (get_or under i false)
 
   marks_found : firsts found us.count ≡ marks_of (regions_of us) (regions_of un)
   marks_found =
@@ -130,17 +114,15 @@ module _ (us un : Lent) {marks scratch : ℕ} (g : Accepted us un marks scratch)
 -- ---- the promise
 
 module _ (us un : Lent) (m₀ s₀ : List ℕ) where
-  pub settled_refused : settle_fails us un (length m₀) (length s₀) ≡ true → Settled us un m₀ m₀ s₀ s₀ 1
-  unfolding refuse
-  settled_refused e = record { number = simp e; slots = simp e; kept = λ f. refl }
+  pub settled_refused : settle_fails us un (length m₀) (length s₀) ≡ true → Settled us un m₀ m₀ s₀ s₀ (refused 1)
+  settled_refused e = record { refusal = sym (one_fails 1 _ tt (omega arith) e); slots = simp e; kept = λ f. refl }
 
   module _ (g : Accepted us un (length m₀) (length s₀)) (over under : List Bool) (t : Struck us un over under) where
-    pub settled_marked : (m s : List ℕ) → m ≡ written (firsts (found us un g over under t) us.count) m₀ → Settled us un m₀ m s₀ s 0
-    unfolding refuse
+    pub settled_marked : (m s : List ℕ) → m ≡ written (firsts (found us un g over under t) us.count) m₀ → Settled us un m₀ m s₀ s (accepted_of tt)
     settled_marked m s w =
         let e = accepts us un (length m₀) (length s₀) g in
         record {
-          number = simp e;
+          refusal = sym (one_passes 1 _ tt e);
           slots = simp e (w ∙ ap (λ (l : List ℕ). written l m₀) (marks_found us un g over under t));
           kept = λ f. clash f e;
         }

@@ -4,10 +4,10 @@ use mathlib.Core.Bool.{Bool, false, ◌||◌}
 use mathlib.Core.List.{List, ◌++◌}
 use mathlib.Core.Path.{◌≡◌, ap, ◌∙◌}
 use native.Mathlib.Omega.{arith}
-use lib.ListN.{length, get_or, take, drop, replicate, length-drop, length-replicate, get_or-replicate}
+use lib.ListN.{length, get_or, take, drop, replicate, length-drop, get_or-replicate}
 use lib.Seq.{take_all}
 use Rattle.numbers.specs.Pairs.{pairs}
-use Rattle.settle.specs.Inner.{Sized, Struck}
+use Rattle.settle.specs.Inner.{Enough, Struck}
 use Rattle.settle.specs.Laying.{Ordered}
 use Rattle.settle.specs.Ranking.{Ranks}
 use Rattle.settle.specs.Regions.{Lent, pieces, pieces_from, regions_of}
@@ -37,33 +37,33 @@ first_mark m₀ i {x = x} a h d e =
     let u : get_or m₀ i false ≡ false = ap (λ (l : List Bool). get_or l i false) a ∙ get_or-replicate 1024 i false false h in
     e ∙ ap (λ (c : Bool). c || x) u ∙ d
 
-module _ (us un : Lent) (z : Sized us.count us.counts us.ranges) (z' : Sized un.count un.counts un.ranges)
-    (e : us.count ≤ length us.seqs) (e' : un.count ≤ length un.seqs) (s : List ℕ) (n : ℕ) (ranks : List ℕ)
+module _ (us un : Lent) (y : Enough us) (y' : Enough un) (s : List ℕ) (n : ℕ) (ranks : List ℕ)
     (o : Ordered (pieces (regions_of us) ++ pieces_from us.count (regions_of un)) (take n (pairs s)) (drop n (pairs s)))
     (r : Ranks (take us.count us.seqs ++ take un.count un.seqs) ranks) where
+  e : us.count ≤ length us.seqs
+  e = y.seqs
+
+  e' : un.count ≤ length un.seqs
+  e' = y'.seqs
+
   o' : Ordered (pieces (regions_of us) ++ pieces_from us.count (regions_of un)) (pairs (order_part s n)) (pairs (facts_part s n))
   o' = rw (order-part s n, facts-part s n) o
 
   pub strike_ready : length ranks ≡ 2048
-      → (over under : List Bool) → over ≡ replicate 1024 false → under ≡ replicate 1024 false
-      → Ready (pairs (order_part s n)) (pairs (facts_part s n)) us.count ranks (length over) (length under)
-  strike_ready k over under a b =
+      → Ready (pairs (order_part s n)) (pairs (facts_part s n)) us.count ranks
+  strike_ready k =
       let q = all_seqs us un e e' (pairs (order_part s n)) (pairs (facts_part s n)) ranks o' r in
-      let f = length-replicate {A = Bool} 1024 false in
-      let g = ap length a in
-      let h = ap length b in
       record {
         owners = all_imp (λ (x : Item). x.owner < us.count + un.count) (λ (x : Item). (x.owner < length ranks) × (get_or ranks x.owner 0 < 2048))
-            (λ x i. (omega (arith, z.few, z'.few), let j = r.small x.owner (omega arith) in omega (arith, z.few, z'.few)))
+            (λ x i. (omega (arith, y.few, y'.few), let j = r.small x.owner (omega arith) in omega (arith, y.few, y'.few)))
             (items_of (pairs (order_part s n)) (pairs (facts_part s n))) (items_owner us un e e' (pairs (order_part s n)) (pairs (facts_part s n)) ranks o' r);
-        over_room = omega (arith, z.few);
-        under_room = omega (arith, z.few);
+        room = y.few;
       }
 
   pub strike_marks : {over₀ over under₀ under : List Bool} → over₀ ≡ replicate 1024 false → under₀ ≡ replicate 1024 false
       → SweptBoth (items_of (pairs (order_part s n)) (pairs (facts_part s n))) us.count ranks over₀ over under₀ under → Struck us un over under
   strike_marks {over₀} {over} {under₀} {under} a b g =
       record {
-        overlap = λ i h. first_mark over₀ i a (omega (arith, z.few)) (swept_overlapped us un e e' (pairs (order_part s n)) (pairs (facts_part s n)) ranks o' r i h) (g.over_marks i h);
-        supersede = λ i h. first_mark under₀ i b (omega (arith, z.few)) (swept_superseded us un e e' (pairs (order_part s n)) (pairs (facts_part s n)) ranks o' r i h) (g.under_marks i h);
+        overlap = λ i h. first_mark over₀ i a (omega (arith, y.few)) (swept_overlapped us un e e' (pairs (order_part s n)) (pairs (facts_part s n)) ranks o' r i h) (g.over_marks i h);
+        supersede = λ i h. first_mark under₀ i b (omega (arith, y.few)) (swept_superseded us un e e' (pairs (order_part s n)) (pairs (facts_part s n)) ranks o' r i h) (g.under_marks i h);
       }

@@ -1,31 +1,26 @@
 -- The sweep: what is read on the way, and whom each range on it strikes.
 use Prim.Native.Nat.{ℕ, suc, ◌+◌, ◌-◌, ◌/◌, ◌≤◌, ◌<◌}
-use mathlib.Core.Bool.{Bool, true, false, not, ◌&&◌, ◌||◌, or-false, and-false, or_assoc}
+use mathlib.Core.Bool.{Bool, true, false, ◌&&◌, ◌||◌, or-false, and-false, or_assoc}
 use mathlib.Core.List.{List, [], ◌∷◌, ◌++◌, map, reverse, reverse-cons}
 use mathlib.Core.Path.{◌≡◌, refl, ap, sym, ◌∙◌}
 use native.Mathlib.Omega.{arith}
 use lib.Dec.{ltb, leb, eqb}
 use lib.ListN.{length, get_or, set, take, replicate, length-map, length-set, length-reverse}
-use lib.Seq.{set-get_or, take-suc, take_all}
+use lib.Seq.{take-suc, take_all}
 use borrow.Author.Tests.{lt-ltb, le-ltb, lt-leb, le-leb, eq-eqb, ne_eqb}
 use Rattle.numbers.specs.Lists.{All, any}
 use Rattle.numbers.specs.Pairs.{pairs}
-use Rattle.numbers.specs.Range.{Range, blank}
-use Rattle.settle.specs.Inner.{Tree, reach, Raised}
-use Rattle.settle.specs.Sweeping.{item_of, no_item, item_at, items_of, mirror, walk, within, usable_over, own_over, struck, behind, strikes, Arrived, Ready, Swept, SweptBoth}
+use Rattle.numbers.specs.Range.{Range}
+use Rattle.settle.specs.Inner.{reach, Raised}
+use Rattle.settle.specs.Sweeping.{no_item, item_at, items_of, mirror, walk, within, usable_over, own_over, struck, behind, strikes, Arrived, Ready, Swept}
 use Rattle.settle.specs.declared.sweep.Item.{Item}
-use Rattle.numbers.proofs.Cases.{by_lt, by_eq, cases, clash}
+use Rattle.numbers.proofs.Cases.{by_lt, by_eq}
 use Rattle.numbers.proofs.Lists.{all_append, all_at, mapped_at, stored_new, stored_old, reverse_at}
 use Rattle.numbers.proofs.Pairs.{length_pairs}
 use Rattle.settle.proofs.Others.{any_last, behind_last}
-use Rattle.settle.proofs.Tree.{tree_blank, reach_blank}
+use Rattle.settle.proofs.Tree.{reach_blank}
 
 -- ---- what is read
-
-pub read_at : (order facts : List Range) (t : ℕ) (p f : Range) → t < length order → p ≡ get_or order t blank → f ≡ get_or facts p.len blank
-    → item_of p.offset f.offset f.len ≡ get_or (items_of order facts) t no_item
-read_at order facts t p f h e d =
-    rw d (ap (item_at facts) e ∙ sym (mapped_at (item_at facts) order t blank no_item h))
 
 -- ---- the way, forward and back
 
@@ -55,15 +50,12 @@ module _ (order : List ℕ) (facts : List Range) (t : ℕ) (back : Bool) (h : t 
 
 -- ---- one mark
 
-module _ (m : List Bool) (i : ℕ) (r : Bool) where
-  pub mark_new : (b : Bool) → not (get_or m i false) ≡ true → b ≡ r → set m i b ≡ set m i (get_or m i false || r)
-  mark_new b e f = ap (set m i) (f ∙ cases (get_or m i false) (λ t. clash {b = not (get_or m i false)} e (simp t)) (λ n. simp n))
+-- it is set where it was set before, or where the test passes
+pub mark_new : (m : List Bool) (i : ℕ) (b r : Bool) → get_or m i false ≡ false → b ≡ r → set m i b ≡ set m i (get_or m i false || r)
+mark_new m i b r e f = ap (set m i) (f ∙ simp e)
 
-  pub mark_kept : not (get_or m i false) ≡ false → m ≡ set m i (get_or m i false || r)
-  mark_kept e =
-      cases (get_or m i false)
-      (λ t. sym (set-get_or m i false) ∙ ap (set m i) (t ∙ simp t))
-      (λ n. clash {b = not (get_or m i false)} (simp n) e)
+pub mark_kept : (m : List Bool) (i : ℕ) (r : Bool) → get_or m i false ≡ true → set m i (get_or m i false) ≡ set m i (get_or m i false || r)
+mark_kept m i r e = ap (set m i) (simp e)
 
 -- ---- one arrival
 
@@ -78,48 +70,15 @@ marked x m₀ m b n h e i =
     ∙ sym (simp (ne_eqb x.owner i d, or-false)))
 
 module _ {x : Item} {u rank : ℕ} {held₀ own₀ : List ℕ} {over₀ under₀ : List Bool} where
-  -- an empty range
-  pub arrives_empty : Tree held₀ → Tree own₀ → x.end ≤ x.start → Arrived x u rank held₀ held₀ own₀ own₀ over₀ over₀ under₀ under₀
-  arrives_empty a b h =
-      let e = le-ltb x.start x.end h in
-      record {
-        held_tree = a;
-        held_reach = λ k v. simp (e, or-false);
-        own_tree = b;
-        own_reach = λ k v. simp (e, or-false);
-        over_size = refl;
-        over_marks = λ i l. simp (e, and-false, or-false);
-        under_size = refl;
-        under_marks = λ i l. simp (e, and-false, or-false);
-      }
-
-  -- an unavailable range
-  pub arrives_own : {own : List ℕ} → Tree held₀ → x.start < x.end → u ≤ x.owner → Raised own₀ own rank x.end → Arrived x u rank held₀ held₀ own₀ own over₀ over₀ under₀ under₀
-  arrives_own a h g r =
-      let e = lt-ltb x.start x.end h in
-      let f = le-ltb x.owner u g in
-      record {
-        held_tree = a;
-        held_reach = λ k v. simp (e, f, or-false);
-        own_tree = r.tree;
-        own_reach = λ k v. r.reaches k v ∙ simp (e, le-leb u x.owner g);
-        over_size = refl;
-        over_marks = λ i l. simp (ne_eqb x.owner i (λ d. omega arith), or-false);
-        under_size = refl;
-        under_marks = λ i l. simp (ne_eqb x.owner i (λ d. omega arith), or-false);
-      }
-
   -- a usable one
-  pub arrives_held : {held : List ℕ} {over under : List Bool} → Tree own₀ → x.start < x.end → x.owner < u → u ≤ length over₀ → u ≤ length under₀
+  pub arrives_held : {held : List ℕ} {over under : List Bool} → x.start < x.end → x.owner < u → u ≤ 1024 → length over₀ ≡ 1024 → length under₀ ≡ 1024
       → over ≡ set over₀ x.owner (get_or over₀ x.owner false || reach held₀ rank x.start)
       → under ≡ set under₀ x.owner (get_or under₀ x.owner false || reach own₀ (rank + 1) x.start)
       → Raised held₀ held rank x.end → Arrived x u rank held₀ held own₀ own₀ over₀ over under₀ under
-  arrives_held b h g n m o p r =
+  arrives_held h g n q v o p r =
       let e = lt-ltb x.start x.end h in
       record {
-        held_tree = r.tree;
-        held_reach = λ k v. r.reaches k v ∙ simp (e, lt-ltb x.owner u g);
-        own_tree = b;
+        held_reach = λ k v. r k v ∙ simp (e, lt-ltb x.owner u g);
         own_reach = λ k v. simp (e, lt-leb u x.owner g, or-false);
         over_size = ap length o ∙ length-set over₀ x.owner (get_or over₀ x.owner false || reach held₀ rank x.start);
         over_marks = λ i l. marked x over₀ _ (reach held₀ rank x.start) (omega arith) h o i;
@@ -164,8 +123,6 @@ above_leb a b = by_lt a b (λ h. lt-ltb a b h ∙ sym (le-leb (a + 1) b (omega a
 -- what the tables and marks hold after the first t ranges of the way
 pub record Sweeping (l : List Item) (u : ℕ) (ranks : List ℕ) (over₀ under₀ : List Bool) (held own : List ℕ) (over under : List Bool) (t : ℕ) : Type 0 where
   pub upto : t ≤ length l
-  pub held_tree : Tree held
-  pub own_tree : Tree own
   pub held_reach : (k v : ℕ) → reach held k v ≡ any (λ (x : Item). strikes (ltb x.owner u) (get_or ranks x.owner 0) k v x) (take t l)
   pub own_reach : (k v : ℕ) → reach own k v ≡ any (λ (x : Item). strikes (leb u x.owner) (get_or ranks x.owner 0) k v x) (take t l)
   pub marks : Swept (take t l) u ranks over₀ over under₀ under
@@ -175,8 +132,6 @@ unfolding any behind
 sweep_begins l u ranks over under =
     record {
       upto = omega arith;
-      held_tree = tree_blank;
-      own_tree = tree_blank;
       held_reach = reach_blank;
       own_reach = reach_blank;
       marks = record {
@@ -195,8 +150,6 @@ module _ {l : List Item} {u : ℕ} {ranks : List ℕ} {over₀ under₀ : List B
   sweep_on y e h a =
       record {
         upto = omega arith;
-        held_tree = a.held_tree;
-        own_tree = a.own_tree;
         held_reach = λ k v. a.held_reach k v ∙ table (λ (x : Item). strikes (ltb x.owner u) (get_or ranks x.owner 0) k v x) (reach held k v) (g.held_reach k v);
         own_reach = λ k v. a.own_reach k v ∙ table (λ (x : Item). strikes (leb u x.owner) (get_or ranks x.owner 0) k v x) (reach own k v) (g.own_reach k v);
         marks = record {
@@ -248,7 +201,7 @@ unfolding walk
 all_walk P true l a = all_reverse (λ (x : Item). P x.owner) (map mirror l) (all_mirror P l a)
 all_walk P false l a = a
 
-module _ (order : List ℕ) (facts : List Range) (u : ℕ) (ranks : List ℕ) (m n : ℕ) (r : Ready (pairs order) facts u ranks m n) (back : Bool) where
+module _ (order : List ℕ) (facts : List Range) (u : ℕ) (ranks : List ℕ) (r : Ready (pairs order) facts u ranks) (back : Bool) where
   abbrev way : List Item
   way = walk back (items_of (pairs order) facts)
 
@@ -262,16 +215,3 @@ module _ (order : List ℕ) (facts : List Range) (u : ℕ) (ranks : List ℕ) (m
       (all_walk (λ (k : ℕ). (k < length ranks) × (get_or ranks k 0 < 2048)) back (items_of (pairs order) facts) r.owners) (omega arith))
 
 -- ---- both passes
-
-pub swept_both : {l : List Item} {u : ℕ} {ranks : List ℕ} {over₀ over₁ over₂ under₀ under₁ under₂ : List Bool}
-    → Swept (walk false l) u ranks over₀ over₁ under₀ under₁ → Swept (walk true l) u ranks over₁ over₂ under₁ under₂ → SweptBoth l u ranks over₀ over₂ under₀ under₂
-swept_both {l} {u} {ranks} {over₀} {over₁} {over₂} {under₀} {under₁} {under₂} a b =
-    record {
-      over_size = b.over_size ∙ a.over_size;
-      over_marks = λ i h. b.over_marks i h ∙ joined (struck (usable_over ranks u) i) (get_or over₀ i false) (a.over_marks i h);
-      under_size = b.under_size ∙ a.under_size;
-      under_marks = λ i h. b.under_marks i h ∙ joined (struck (own_over ranks u) i) (get_or under₀ i false) (a.under_marks i h);
-    }
-  where
-    joined : (f : Item → Item → Bool) (n : Bool) {m : Bool} → m ≡ (n || behind f (walk false l)) → (m || behind f (walk true l)) ≡ (n || (behind f (walk false l) || behind f (walk true l)))
-    joined f n e = ap (λ (b : Bool). b || behind f (walk true l)) e ∙ or_assoc n (behind f (walk false l)) (behind f (walk true l))

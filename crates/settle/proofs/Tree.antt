@@ -4,7 +4,7 @@ use mathlib.Core.Bool.{true, false, ◌&&◌, ◌||◌, or-true as or_right}
 use mathlib.Core.List.{List}
 use mathlib.Core.Logic.{⊎_elim}
 use mathlib.Core.Path.{◌≡◌, refl, ap, sym, ◌∙◌}
-use native.Mathlib.Nat.{pow-suc}
+use native.Mathlib.Nat.{pow-suc, le_refl}
 use native.Mathlib.Omega.{arith}
 use lib.Dec.{ltb, leb}
 use lib.ListN.{length, get_or, take, drop, set, replicate, length-take, length-drop, length-set, length-replicate, get_or-eq_default}
@@ -12,6 +12,9 @@ use lib.Seq.{drop-cons, get_or-drop, get_or-take, get_or-set_same, get_or-set_ot
 use borrow.Author.Tests.{ltb-true, lt-ltb, le-ltb, leb-true, le-leb}
 use Rattle.numbers.specs.Lists.{any}
 use Rattle.settle.specs.Inner.{Tree, Raised, reach}
+use Rattle.std.proofs.lemmas.List.{drop-take}
+use Rattle.std.specs.List.{list_any}
+use Rattle.numbers.proofs.Lists.{list_any_is}
 use Rattle.numbers.proofs.Cases.{clash, by_lt, by_eq, or-true, and-true, both_ways, never}
 use Rattle.numbers.proofs.Lists.{any_true, any_at, any_of, of_any}
 
@@ -84,26 +87,11 @@ module _ (t : List ℕ) (x lo hi : ℕ) where
   part_slot : (i : ℕ) → lo ≤ i → i < hi → x < get_or t i 0 → any (ltb x) (drop lo (take hi t)) ≡ true
   part_slot i l h m = any_slot (take hi t) x lo i l (rw get_or-take m)
 
--- from i on there is more than x if and only if there is from lo on
-pub record Scanned (t : List ℕ) (lo hi x i : ℕ) : Type 0 where
-  pub room : hi ≤ length t
-  pub same : any (ltb x) (drop i (take hi t)) ≡ any (ltb x) (drop lo (take hi t))
-
-pub scan_begins : (t : List ℕ) (lo hi x : ℕ) → hi ≤ length t → Scanned t lo hi x lo
-scan_begins t lo hi x h = record { room = h; same = refl }
-
-module _ {t : List ℕ} {lo hi x i : ℕ} (g : Scanned t lo hi x i) where
-  scan_here : i < hi → any (ltb x) (drop i (take hi t)) ≡ (ltb x (get_or t i 0) || any (ltb x) (drop (i + 1) (take hi t)))
-  scan_here h = rw (← get_or-take hi t i 0 h) (any_here (take hi t) x i (omega (arith, length-take hi t)))
-
-  pub scan_found : i < hi → x < get_or t i 0 → any (ltb x) (drop lo (take hi t)) ≡ true
-  scan_found h l = sym g.same ∙ scan_here h ∙ simp (lt-ltb x (get_or t i 0) l)
-
-  pub scan_on : i < hi → get_or t i 0 ≤ x → Scanned t lo hi x (i + 1)
-  scan_on h l = record { room = g.room; same = sym (scan_here h ∙ simp (le-ltb x (get_or t i 0) l)) ∙ g.same }
-
-  pub scan_ends : hi ≤ i → any (ltb x) (drop lo (take hi t)) ≡ false
-  scan_ends h = sym g.same ∙ never _ (λ e. let o = part_over t x i hi e in omega arith)
+-- the slots from lo up to hi, as the code cuts them
+pub slots_above : (t : List ℕ) (lo hi x : ℕ) → lo ≤ hi → list_any (ltb x) (take (hi - lo) (drop lo t)) ≡ any (ltb x) (drop lo (take hi t))
+slots_above t lo hi x h =
+    let e : lo + (hi - lo) ≡ hi = omega arith in
+    list_any_is (ltb x) (take (hi - lo) (drop lo t)) ∙ ap (any (ltb x)) (sym (drop-take lo (hi - lo) t)) ∙ ap (λ (m : ℕ). any (ltb x) (drop lo (take m t))) e
 
 -- ---- a search upwards
 
@@ -205,47 +193,48 @@ pub record Raising (t₀ t : List ℕ) (rank value n : ℕ) : Type 0 where
   pub leaves : (j : ℕ) → 4096 ≤ j → get_or t₀ j 0 < get_or t j 0 → (j ≡ 4096 + rank) × (get_or t j 0 ≤ value)
   pub grown : (j : ℕ) → get_or t₀ j 0 ≤ get_or t j 0
 
-pub raise_begins : (t : List ℕ) (rank value : ℕ) → Tree t → rank < 2048 → Raising t t rank value (4096 + rank)
-raise_begins t rank value g h =
+pub raise_begins : {t : List ℕ} (rank value : ℕ) → Tree t → rank < 2048 → Raising t t rank value (4096 + rank)
+raise_begins rank value tree h =
     record {
-      size = g.size;
+      size = tree.size;
       below = omega arith;
-      under = λ c a l. absurd (omega (arith, g.under c a));
-      some = g.some;
-      put = λ a. absurd (omega arith);
-      start = λ a. refl;
-      leaf = λ a. absurd (omega arith);
-      leaves = λ j a l. absurd (omega arith);
-      grown = λ j. omega arith;
+      under = λ c l d. let u = tree.under c l in absurd (omega arith);
+      some = tree.some;
+      put = λ l. absurd (omega arith);
+      start = λ _. refl;
+      leaf = λ l. absurd (omega arith);
+      leaves = λ j l d. absurd (omega arith);
+      grown = λ j. le_refl _;
     }
 
 module _ {t₀ t : List ℕ} {rank value n : ℕ} (g : Raising t₀ t rank value n) where
   -- n stands where value is not more, or above the tree
-  pub raise_ends : (0 < n → value ≤ get_or t n 0) → Raised t₀ t rank value
-  raise_ends stop =
+  pub raise_tree : (0 < n → value ≤ get_or t n 0) → Tree t
+  raise_tree stop =
       record {
-        tree = record {
-          size = g.size;
-          under = λ c a. by_lt (get_or t (c / 16) 0) (get_or t c 0)
-              (λ l. let p = g.under c a l in omega (arith, stop (omega arith), ap (λ (m : ℕ). get_or t m 0) p.0)) (λ l. l);
-          some = g.some;
-        };
-        reaches = λ k x. both_ways _ _
-            (λ e.
-            let o = reach_over t k x e in
-            by_lt x (get_or t₀ o.at 0)
-            (λ l. simp (reach_slot t₀ k x o.at o.from l))
-            (λ l.
-            let p = g.leaves o.at (omega arith) (omega arith) in
-            simp (le-leb k rank (omega arith), lt-ltb x value (omega arith), or_right (reach t₀ k x))))
-            (λ e.
-            ⊎_elim
-            (λ a. let o = reach_over t₀ k x a in reach_slot t k x o.at o.from (omega (arith, g.grown o.at)))
-            (λ b.
-            let p = and-true (leb k rank) (ltb x value) b in
-            reach_slot t k x (4096 + rank) (omega (arith, leb-true k rank p.0)) (omega (arith, done, ltb-true x value p.1)))
-            (or-true (reach t₀ k x) (leb k rank && ltb x value) e));
+        size = g.size;
+        under = λ c a. by_lt (get_or t (c / 16) 0) (get_or t c 0)
+            (λ l. let p = g.under c a l in omega (arith, stop (omega arith), ap (λ (m : ℕ). get_or t m 0) p.0)) (λ l. l);
+        some = g.some;
       }
+
+  pub raise_ends : (0 < n → value ≤ get_or t n 0) → Raised t₀ t rank value
+  raise_ends stop k x =
+      both_ways _ _
+      (λ e.
+      let o = reach_over t k x e in
+      by_lt x (get_or t₀ o.at 0)
+      (λ l. simp (reach_slot t₀ k x o.at o.from l))
+      (λ l.
+      let p = g.leaves o.at (omega arith) (omega arith) in
+      simp (le-leb k rank (omega arith), lt-ltb x value (omega arith), or_right (reach t₀ k x))))
+      (λ e.
+      ⊎_elim
+      (λ a. let o = reach_over t₀ k x a in reach_slot t k x o.at o.from (omega (arith, g.grown o.at)))
+      (λ b.
+      let p = and-true (leb k rank) (ltb x value) b in
+      reach_slot t k x (4096 + rank) (omega (arith, leb-true k rank p.0)) (omega (arith, done, ltb-true x value p.1)))
+      (or-true (reach t₀ k x) (leb k rank && ltb x value) e))
     where
       done : value ≤ get_or t (4096 + rank) 0
       done = by_lt n 4096 g.leaf (λ h. omega (arith, stop (omega arith), ap (λ (m : ℕ). get_or t m 0) (g.start h)))

@@ -2,7 +2,6 @@
 use Rattle.std.specs.Prelude.{ℕ, zero, suc, ◌+◌, ◌*◌, ◌/◌, ◌≤◌, ◌<◌, Bool, false, ◌&&◌, ◌||◌, List, [], ◌∷◌, ◌++◌, ◌⊎◌, ◌≡◌, ltb, leb, length, get_or, take, drop}
 use Rattle.numbers.specs.Lists.{All, any}
 use Rattle.numbers.specs.Pairs.{is_odd, pairs}
-use Rattle.numbers.specs.Sums.{sum}
 use Rattle.settle.specs.Regions.{Lent, Region, regions_of}
 use Rattle.settle.specs.Settle.{range_count, overlapped, superseded}
 
@@ -18,9 +17,8 @@ unfoldable pub reach : List ℕ → ℕ → ℕ → Bool
 reach t k x = any (ltb x) (drop (4096 + k) t)
 
 -- t after value was put in at a rank.
-pub record Raised (t₀ t : List ℕ) (rank value : ℕ) : Type 0 where
-  pub tree : Tree t
-  pub reaches : (k x : ℕ) → reach t k x ≡ (reach t₀ k x || (leb k rank && ltb x value))
+abbrev pub Raised : (t₀ t : List ℕ) (rank value : ℕ) → Type 0
+Raised t₀ t rank value = (k x : ℕ) → reach t k x ≡ (reach t₀ k x || (leb k rank && ltb x value))
 
 -- What it means of a kind's lists that 1 does not apply.
 pub record Enough (g : Lent) : Type 0 where
@@ -43,11 +41,20 @@ OwnShort g = All (λ (n : ℕ). (n ≤ 24) ⊎ (n ≡ 255)) (take g.count g.lens
 abbrev pub no_region : Region
 no_region = record { seq = 0; ranges = []; named = false; name = [] }
 
--- What the passes over the ranges ask of a kind's lists.
-pub record Sized (n : ℕ) (counts ranges : List ℕ) : Type 0 where
-  pub few : n ≤ 1024
-  pub counts_in : n ≤ length counts
-  pub ranges_in : sum (take n counts) ≤ length (pairs ranges)
+-- What it means that 1 does not apply at all.
+pub record Accepted (us un : Lent) (marks scratch : ℕ) : Type 0 where
+  pub ours : Enough us
+  pub theirs : Enough un
+  pub names : Short us
+  pub own_names : OwnShort un
+  pub few : range_count us + range_count un ≤ 65536
+  pub room : us.count ≤ marks
+  pub space : 16 * (range_count us + range_count un) ≤ scratch
+
+-- What the passes over the ranges ask: few ranges, and four numbers in s for each.
+pub record Roomy (us un : Lent) (s : ℕ) : Type 0 where
+  pub few : range_count us + range_count un ≤ 65536
+  pub space : s ≡ 4 * (range_count us + range_count un)
 
 -- What they find: which usable regions are overlapped, and which superseded.
 pub record Struck (us un : Lent) (over under : List Bool) : Type 0 where

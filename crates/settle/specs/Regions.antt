@@ -2,6 +2,7 @@
 use Rattle.std.specs.Prelude.{ℕ, zero, suc, Bool, not, List, [], ◌∷◌, ◌++◌, map, eqb, get_or, take, drop}
 use Rattle.numbers.specs.Pairs.{pairs}
 use Rattle.numbers.specs.Range.{Range}
+use Rattle.settle.specs.declared.records.Records.{Records}
 
 -- How the records of one kind are lent: how many they are, and of each its sequence number, how many ranges it has, those
 -- ranges as pairs, record by record, the length of its name, and 24 bytes, of which the first are its name.
@@ -15,6 +16,10 @@ pub record Lent : Type 0 where
 
 abbrev pub lent : ℕ → (seqs counts ranges lens names : List ℕ) → Lent
 lent n seqs counts ranges lens names = record { count = n; seqs = seqs; counts = counts; ranges = ranges; lens = lens; names = names }
+
+-- The same of the records as the code has them.
+abbrev pub lent_of : Records → Lent
+lent_of r = lent r.count r.seqs.now r.counts.now r.ranges.now r.lens.now r.names.now
 
 -- A record: "A region's sequence number is its entry's `footprint_seq`"; an unavailable one may have no name.
 pub record Region : Type 0 where

@@ -3,7 +3,7 @@ use Rattle.std.specs.Prelude.{ℕ, suc, ◌+◌, ◌*◌, max, Bool, true, false
 use Rattle.numbers.specs.Lists.{any, keep, same, written}
 use Rattle.numbers.specs.Pairs.{is_odd, pairs}
 use Rattle.numbers.specs.Range.{meets}
-use Rattle.numbers.specs.Refusals.{refuse}
+use Rattle.numbers.specs.Refusals.{refuse, Answer, answer}
 use Rattle.numbers.specs.Sums.{sum}
 use Rattle.settle.specs.Regions.{Lent, Region, regions_of, Piece, pieces}
 
@@ -82,7 +82,7 @@ settle_fails us un marks scratch =
     || ltb scratch (16 * (range_count us + range_count un))
 
 -- What `settle` promises: the refusal, every mark and, where it refuses, every slot of scratch.
-pub record Settled (us un : Lent) (marks₀ marks scratch₀ scratch : List ℕ) (refusal : ℕ) : Type 0 where
-  pub number : refusal ≡ refuse 1 (settle_fails us un (length marks₀) (length scratch₀))
+pub record Settled (us un : Lent) (marks₀ marks scratch₀ scratch : List ℕ) (given : Answer (Unit {0})) : Type 0 where
+  pub refusal : given ≡ answer (refuse 1 (settle_fails us un (length marks₀) (length scratch₀))) tt
   pub slots : marks ≡ cond (settle_fails us un (length marks₀) (length scratch₀)) marks₀ (written (marks_of (regions_of us) (regions_of un)) marks₀)
   pub kept : settle_fails us un (length marks₀) (length scratch₀) ≡ true → scratch ≡ scratch₀

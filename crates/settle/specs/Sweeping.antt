@@ -3,7 +3,7 @@ use Rattle.std.specs.Prelude.{ℕ, ◌+◌, ◌-◌, ◌≤◌, ◌<◌, Bool, t
 use Rattle.numbers.specs.Lists.{All, any}
 use Rattle.numbers.specs.Range.{Range, blank}
 use Rattle.numbers.specs.Sums.{top}
-use Rattle.settle.specs.Inner.{Tree, reach}
+use Rattle.settle.specs.Inner.{reach}
 use Rattle.settle.specs.declared.sweep.Item.{Item}
 
 abbrev pub item_of : ℕ → ℕ → ℕ → Item
@@ -54,9 +54,7 @@ strikes kind rank k v x = ltb x.start x.end && kind && leb k rank && ltb v x.end
 
 -- The tables and marks after x arrived.
 pub record Arrived (x : Item) (u rank : ℕ) (held₀ held own₀ own : List ℕ) (over₀ over under₀ under : List Bool) : Type 0 where
-  pub held_tree : Tree held
   pub held_reach : (k v : ℕ) → reach held k v ≡ (reach held₀ k v || strikes (ltb x.owner u) rank k v x)
-  pub own_tree : Tree own
   pub own_reach : (k v : ℕ) → reach own k v ≡ (reach own₀ k v || strikes (leb u x.owner) rank k v x)
   pub over_size : length over ≡ length over₀
   pub over_marks : (i : ℕ) → i < u → get_or over i false ≡ (get_or over₀ i false || (eqb x.owner i && ltb x.start x.end && reach held₀ rank x.start))
@@ -64,10 +62,9 @@ pub record Arrived (x : Item) (u rank : ℕ) (held₀ held own₀ own : List ℕ
   pub under_marks : (i : ℕ) → i < u → get_or under i false ≡ (get_or under₀ i false || (eqb x.owner i && ltb x.start x.end && reach own₀ (rank + 1) x.start))
 
 -- What a pass asks: owners and ranks are inside, and every usable region has its mark.
-pub record Ready (order facts : List Range) (u : ℕ) (ranks : List ℕ) (over under : ℕ) : Type 0 where
+pub record Ready (order facts : List Range) (u : ℕ) (ranks : List ℕ) : Type 0 where
   pub owners : All (λ (x : Item). (x.owner < length ranks) × (get_or ranks x.owner 0 < 2048)) (items_of order facts)
-  pub over_room : u ≤ over
-  pub under_room : u ≤ under
+  pub room : u ≤ 1024
 
 -- The marks after a pass over the ranges l.
 pub record Swept (l : List Item) (u : ℕ) (ranks : List ℕ) (over₀ over under₀ under : List Bool) : Type 0 where

@@ -1,159 +1,130 @@
 // Which usable records are renamed. Names are told apart by a tag of their bytes; only where two
 // tags are the same are the bytes compared.
-ghost use Rattle.std.specs.Prelude.{◌≡◌, ◌+◌, ◌*◌, ◌<◌, ◌≤◌, length, get_or};
+ghost use Rattle.std.specs.Prelude.{◌≡◌, ◌+◌, ◌*◌, ◌<◌, ◌≤◌, ℕ, eqb, count_by, length, get_or};
 ghost use Rattle.numbers.specs.Lists.{same};
-ghost use Rattle.settle.specs.Naming.{Absent, tag_of, Tagged, Listed, rivals, any_below, outdone};
+ghost use Rattle.settle.specs.Naming.{tag_of, Tagged, Listed, rivals, any_below, outdone};
+ghost use Rattle.settle.specs.Regions.{lent_of};
+
+use crate::complete::Complete;
+
+// The records of one kind with the tags of their names.
+#[derive(Clone, Copy)]
+pub struct Named<'a, 'b> {
+    pub complete: Complete<'a>,
+    pub tags: &'b [u64],
+    ghost listed: { Listed (lent_of complete.records) tags.now },
+}
+
+// What is looked for: a name, with its tag, of this number or a higher one, at another place than skip.
+#[derive(Clone, Copy)]
+pub struct Wanted<'a> {
+    pub name: &'a [u8],
+    pub tag: u64,
+    pub seq: u64,
+    pub skip: usize,
+}
 
 // A number made of a name's bytes.
 fn tag_of(name: &[u8]) -> u64
     ensures { result ≡ tag_of name.now }
 {
     let mut tag: u64 = 0;
-    let mut i = 0;
-    while i < name.len() {
-        tag = (tag * 33 + name[i] as u64) % 0x7fff_ffff;
-        i += 1;
+    for byte in name {
+        tag = (tag * 33 + *byte as u64) % 0x7fff_ffff;
     }
     tag
 }
 
-// Fills tags for the first count records; of a record with no name the tag stays.
-pub(crate) fn tag_names(count: usize, lens: &[u8], names: &[u8], tags: &mut [u64])
-    requires { (count ≤ length lens.now) × (24 * count ≤ length names.now) × (count ≤ length tags.old) }
-    ensures { Tagged count lens.now names.now tags.new }
-{
-    let mut i = 0;
-    while i < count {
-        let len = lens[i] as usize;
-        if len <= 24 {
-            tags[i] = tag_of(&names[24 * i..24 * i + len]);
+impl Complete<'_> {
+    // Fills tags for the records; of a record with no name the tag stays.
+    pub(crate) fn tag_names(self, tags: &mut [u64])
+        requires { self.records.count ≤ length tags.old }
+        ensures { Tagged (lent_of self.entry.records) self.entry.records.count tags.new }
+    {
+        let records = self.records;
+        for i in 0..records.count {
+            let len = records.lens[i] as usize;
+            if len <= 24 {
+                tags[i] = tag_of(&records.names[24 * i..24 * i + len]);
+            }
         }
-        i += 1;
     }
-}
 
-// Whether two names of the same length are the same.
-fn same_bytes(a: &[u8], b: &[u8]) -> bool
-    requires { length a.now ≡ length b.now }
-    ensures { result ≡ same a.now b.now }
-{
-    let mut i = 0;
-    while i < a.len() {
-        if a[i] != b[i] {
+    // Whether the record j is another one than at skip, has the name and no lower number.
+    fn rival(self, wanted: Wanted<'_>, j: usize) -> bool
+        requires { (j < self.records.count) × (length wanted.name.now ≤ 24) }
+        ensures { result ≡ rivals (lent_of self.entry.records) wanted.entry.skip wanted.entry.seq wanted.entry.name.now j }
+    {
+        if j == wanted.skip {
             return false;
         }
-        i += 1;
+        if self.records.seqs[j] < wanted.seq {
+            return false;
+        }
+        let len = self.records.lens[j] as usize;
+        if len != wanted.name.len() {
+            return false;
+        }
+        &self.records.names[24 * j..24 * j + len] == wanted.name
     }
-    true
 }
 
-// Whether the record j is another one than skip, has the name and no lower number.
-fn rival(
-    j: usize,
-    skip: usize,
-    seq: u64,
-    name: &[u8],
-    seqs: &[u64],
-    lens: &[u8],
-    names: &[u8],
-) -> bool
-    requires { (j < length seqs.now) × (j < length lens.now) × (24 * j + 24 ≤ length names.now) × (length name.now ≤ 24) }
-    ensures { result ≡ rivals seqs.now lens.now names.now skip seq name.now j }
-{
-    if j == skip {
-        return false;
-    }
-    if seqs[j] < seq {
-        return false;
-    }
-    let len = lens[j] as usize;
-    if len != name.len() {
-        return false;
-    }
-    same_bytes(&names[24 * j..24 * j + len], name)
-}
-
-// How many of the tags from one place on and below another are this one. Nothing but the count
-// depends on a test, so that the compiler can compare several tags at a time.
-fn alike(tag: u64, from: usize, to: usize, tags: &[u64]) -> usize
-    requires { to ≤ length tags.now }
-    ensures { Absent tag from to tags.now result }
+// How many of the tags are this one. Nothing but the count depends on a test, so that the compiler
+// compares several tags at a time; of `filter` and `count` it makes code for one at a time.
+fn alike(tag: u64, tags: &[u64]) -> usize
+    ensures { result ≡ count_by (λ (other : ℕ). eqb other tag) tags.now }
 {
     let mut n = 0;
-    let mut j = from;
-    while j < to {
-        if tags[j] == tag {
+    for other in tags {
+        if *other == tag {
             n += 1;
         }
-        j += 1;
     }
     n
 }
 
-// Whether a record other than skip has the name, of this tag, and no lower number.
-fn search(
-    name: &[u8],
-    tag: u64,
-    seq: u64,
-    skip: usize,
-    count: usize,
-    seqs: &[u64],
-    lens: &[u8],
-    names: &[u8],
-    tags: &[u64],
-) -> bool
-    requires { Listed count seqs.now lens.now names.now tags.now × (length name.now ≤ 24) × (tag ≡ tag_of name.now) × (skip ≤ count) }
-    ensures { result ≡ any_below (rivals seqs.now lens.now names.now skip seq name.now) count }
-{
-    if alike(tag, 0, skip, tags) == 0 {
-        if alike(tag, skip + 1, count, tags) == 0 {
-            return false;
-        }
-    }
-    let mut j = 0;
-    while j < count {
-        if tags[j] == tag {
-            if rival(j, skip, seq, name, seqs, lens, names) {
-                return true;
+impl Named<'_, '_> {
+    // Whether a record at another place than skip has the name and no lower number.
+    fn search(self, wanted: Wanted<'_>) -> bool
+        requires { (length wanted.name.now ≤ 24) × (wanted.tag ≡ tag_of wanted.name.now) × (wanted.skip ≤ self.complete.records.count) }
+        ensures { result ≡ any_below (rivals (lent_of self.entry.complete.records) wanted.entry.skip wanted.entry.seq wanted.entry.name.now) self.entry.complete.records.count }
+    {
+        let count = self.complete.records.count;
+        let behind = count.min(wanted.skip + 1);
+        if alike(wanted.tag, &self.tags[..wanted.skip]) == 0 {
+            if alike(wanted.tag, &self.tags[behind..count]) == 0 {
+                return false;
             }
         }
-        j += 1;
+        for j in 0..count {
+            if self.tags[j] == wanted.tag {
+                if self.complete.rival(wanted, j) {
+                    return true;
+                }
+            }
+        }
+        false
     }
-    false
-}
 
-// Whether the usable record i is renamed: another record of its name has no lower number.
-pub(crate) fn renamed(
-    i: usize,
-    usable: usize,
-    seqs: &[u64],
-    lens: &[u8],
-    names: &[u8],
-    tags: &[u64],
-    unavailable: usize,
-    own_seqs: &[u64],
-    own_lens: &[u8],
-    own_names: &[u8],
-    own_tags: &[u64],
-) -> bool
-    requires listed { Listed usable seqs.now lens.now names.now tags.now × (i < usable) × (get_or lens.now i 0 ≤ 24) }
-    requires listed_2 { Listed unavailable own_seqs.now own_lens.now own_names.now own_tags.now }
-    ensures { result ≡ outdone i usable seqs.now lens.now names.now unavailable own_seqs.now own_lens.now own_names.now }
-{
-    let len = lens[i] as usize;
-    let name = &names[24 * i..24 * i + len];
-    if search(name, tags[i], seqs[i], i, usable, seqs, lens, names, tags) {
-        return true;
+    // Whether the usable record i is renamed: another record of its name has no lower number.
+    pub(crate) fn renamed(self, unavailable: Named<'_, '_>, i: usize) -> bool
+        requires { (i < self.complete.records.count) × (get_or self.complete.records.lens.now i 0 ≤ 24) }
+        ensures { result ≡ outdone (lent_of self.entry.complete.records) (lent_of unavailable.entry.complete.records) i }
+    {
+        let usable = self.complete.records;
+        let len = usable.lens[i] as usize;
+        let wanted = Wanted {
+            name: &usable.names[24 * i..24 * i + len],
+            tag: self.tags[i],
+            seq: usable.seqs[i],
+            skip: i,
+        };
+        if self.search(wanted) {
+            return true;
+        }
+        unavailable.search(Wanted {
+            skip: unavailable.complete.records.count,
+            ..wanted
+        })
     }
-    search(
-        name,
-        tags[i],
-        seqs[i],
-        unavailable,
-        unavailable,
-        own_seqs,
-        own_lens,
-        own_names,
-        own_tags,
-    )
 }

@@ -5,25 +5,24 @@ ghost use Rattle.numbers.specs.Pairs.{is_odd, pairs};
 ghost use Rattle.settle.specs.Ranking.{Keyed, Keys, Ranked, Ranks};
 ghost use Rattle.sort.specs.Sort.{Ascending, sorted};
 
+use crate::complete::Complete;
 use sort::pair::{Pair, pair_at, put_pair};
 use sort::sort_pairs;
 
-// The numbers of count records, each with its place from first on, as pairs.
-fn key(seqs: &[u64], count: usize, first: usize, keys: &mut [u64])
-    requires { (count ≤ length seqs.now) × (first + count ≤ length (pairs keys.old)) }
-    ensures { Keyed (take count seqs.now) first keys.old keys.new }
+// The numbers, each with its place from first on, as pairs.
+fn key(seqs: &[u64], first: usize, keys: &mut [u64])
+    requires { first + length seqs.now ≤ length (pairs keys.old) }
+    ensures { Keyed seqs.now first keys.old keys.new }
 {
-    let mut i = 0;
-    while i < count {
+    for (i, seq) in seqs.iter().enumerate() {
         put_pair(
             keys,
             first + i,
             Pair {
-                left: seqs[i],
+                left: *seq,
                 right: (first + i) as u64,
             },
         );
-        i += 1;
     }
 }
 
@@ -32,16 +31,13 @@ fn assign(keys: &[u64], ranks: &mut [usize])
     requires { Ascending (pairs keys.now) × Keys (pairs keys.now) (length ranks.old) }
     ensures { Ranked (pairs keys.now) ranks.new }
 {
-    let n = keys.len() / 2;
     let mut rank = 0;
-    let mut t = 0;
-    while t < n {
+    for t in 0..keys.len() / 2 {
         let next = pair_at(keys, t);
         if pair_at(keys, rank).left != next.left {
             rank = t;
         }
         ranks[next.right as usize] = rank;
-        t += 1;
     }
 }
 
@@ -55,18 +51,18 @@ fn rank_keys(keys: &mut [u64], ranks: &mut [usize])
 }
 
 // The ranks of usable and unavailable records, in this order.
-pub(crate) fn rank_all(
-    usable: usize,
-    seqs: &[u64],
-    unavailable: usize,
-    own_seqs: &[u64],
-    ranks: &mut [usize],
-)
-    requires { (usable ≤ 1024) × (unavailable ≤ 1024) × (usable ≤ length seqs.now) × (unavailable ≤ length own_seqs.now) × (length ranks.old ≡ 2048) }
-    ensures { Ranks (take usable seqs.now ++ take unavailable own_seqs.now) ranks.new }
+pub(crate) fn rank_all(usable: Complete<'_>, unavailable: Complete<'_>, ranks: &mut [usize])
+    requires { length ranks.old ≡ 2048 }
+    ensures { Ranks (take usable.entry.records.count usable.entry.records.seqs.now ++ take unavailable.entry.records.count unavailable.entry.records.seqs.now) ranks.new }
 {
+    let usable = usable.records;
+    let unavailable = unavailable.records;
     let mut keys = [0u64; 4096];
-    key(seqs, usable, 0, &mut keys);
-    key(own_seqs, unavailable, usable, &mut keys);
-    rank_keys(&mut keys[0..2 * (usable + unavailable)], ranks);
+    key(&usable.seqs[..usable.count], 0, &mut keys);
+    key(
+        &unavailable.seqs[..unavailable.count],
+        usable.count,
+        &mut keys,
+    );
+    rank_keys(&mut keys[0..2 * (usable.count + unavailable.count)], ranks);
 }

@@ -1,11 +1,11 @@
 // Which regions have a range that meets one of an equal or higher rank, by one pass over the ranges
 // in the order of their starts and one back.
-ghost use Rattle.std.specs.Prelude.{◌≡◌, false, ◌||◌, ◌+◌, ◌<◌, ◌≤◌, length, get_or, set};
+ghost use Rattle.std.specs.Prelude.{◌≡◌, ◌<◌, ◌≤◌, length, get_or};
 ghost use Rattle.numbers.specs.Pairs.{pairs};
-ghost use Rattle.settle.specs.Inner.{Tree, reach};
-ghost use Rattle.settle.specs.Sweeping.{items_of, walk, no_item, Arrived, Ready, Swept};
+ghost use Rattle.settle.specs.Inner.{Tree};
+ghost use Rattle.settle.specs.Sweeping.{items_of, mirror, walk, no_item, Arrived, Ready, Swept};
 
-use crate::table::{above, from, raise};
+use crate::table::Table;
 use sort::pair::pair_at;
 
 // A range on the way: where it starts, where it ends, and the place of its record.
@@ -16,107 +16,101 @@ pub struct Item {
     pub owner: usize,
 }
 
-// The range t in the order of the starts.
-fn read(order: &[u64], facts: &[u64], t: usize) -> Item
-    requires { t < length (pairs order.now) }
-    ensures { result ≡ get_or (items_of (pairs order.now) (pairs facts.now)) t no_item }
-{
-    let next = pair_at(order, t);
-    let fact = pair_at(facts, next.right as usize);
-    Item {
-        start: next.left,
-        end: fact.left,
-        owner: fact.right as usize,
+impl Item {
+    // The same range where the byte b counts as 2^64 - 1 - b, so that it starts where it ended.
+    fn mirror(self) -> Item
+        ensures { result ≡ mirror self }
+    {
+        Item {
+            start: u64::MAX - self.end,
+            end: u64::MAX - self.start,
+            owner: self.owner,
+        }
     }
 }
 
-// The range t on the way, forward or back. On the way back the byte b counts as 2^64 - 1 - b, so
-// that a range starts where it ended.
-fn next(order: &[u64], facts: &[u64], t: usize, back: bool) -> Item
-    requires { t < length (pairs order.now) }
-    ensures { result ≡ get_or (walk back (items_of (pairs order.now) (pairs facts.now))) t no_item }
-{
-    if back {
-        let x = read(order, facts, order.len() / 2 - 1 - t);
-        return Item {
-            start: 0xffff_ffff_ffff_ffff - x.end,
-            end: 0xffff_ffff_ffff_ffff - x.start,
-            owner: x.owner,
-        };
-    }
-    read(order, facts, t)
+// The ranges in the order of their starts: each start with the place of its end and its record.
+#[derive(Clone, Copy)]
+pub struct Way<'a> {
+    pub order: &'a [u64],
+    pub facts: &'a [u64],
 }
 
-// Marks the region i where more than x was put in at a rank or above.
-fn mark_from(marks: &mut [bool], i: usize, t: &[u64], rank: usize, x: u64)
-    requires { (i < length marks.old) × Tree t.now × (rank < 2048) }
-    ensures { marks.new ≡ set marks.old i (get_or marks.old i false || reach t.now rank x) }
-{
-    if !marks[i] {
-        marks[i] = from(t, rank, x);
+impl Way<'_> {
+    // The range t in the order of the starts.
+    fn read(self, t: usize) -> Item
+        requires { t < length (pairs self.order.now) }
+        ensures { result ≡ get_or (items_of (pairs self.entry.order.now) (pairs self.entry.facts.now)) t no_item }
+    {
+        let next = pair_at(self.order, t);
+        let fact = pair_at(self.facts, next.right as usize);
+        Item {
+            start: next.left,
+            end: fact.left,
+            owner: fact.right as usize,
+        }
     }
-}
 
-// Marks the region i where more than x was put in above a rank.
-fn mark_above(marks: &mut [bool], i: usize, t: &[u64], rank: usize, x: u64)
-    requires { (i < length marks.old) × Tree t.now × (rank < 2048) }
-    ensures { marks.new ≡ set marks.old i (get_or marks.old i false || reach t.now (rank + 1) x) }
-{
-    if !marks[i] {
-        marks[i] = above(t, rank, x);
+    // The range t on the way, forward or back.
+    fn next(self, t: usize, back: bool) -> Item
+        requires { t < length (pairs self.order.now) }
+        ensures { result ≡ get_or (walk back (items_of (pairs self.entry.order.now) (pairs self.entry.facts.now))) t no_item }
+    {
+        if back {
+            return self.read(self.order.len() / 2 - 1 - t).mirror();
+        }
+        self.read(t)
     }
 }
 
-// The range x arrives: those that still last where it starts strike it, and it may strike later ones.
-fn arrive(
-    x: Item,
-    usable: usize,
-    ranks: &[usize],
-    held: &mut [u64],
-    own: &mut [u64],
-    over: &mut [bool],
-    under: &mut [bool],
-)
-    requires { Tree held.old × Tree own.old × (x.owner < length ranks.now) × (get_or ranks.now x.owner 0 < 2048) × (usable ≤ length over.old) × (usable ≤ length under.old) }
-    ensures { Arrived x usable (get_or ranks.now x.owner 0) held.old held.new own.old own.new over.old over.new under.old under.new }
-{
-    let start = x.start;
-    let end = x.end;
-    let owner = x.owner;
-    if start >= end {
-        return;
-    }
-    let rank = ranks[owner];
-    if owner >= usable {
-        raise(own, rank, end);
-        return;
-    }
-    mark_from(over, owner, held, rank, start);
-    mark_above(under, owner, own, rank, start);
-    raise(held, rank, end);
+// The regions found: which usable ones are overlapped, and which superseded.
+#[derive(Clone, Copy)]
+pub struct Found {
+    pub over: [bool; 1024],
+    pub under: [bool; 1024],
 }
 
-// One pass: marks in over the regions that a usable range of equal or higher rank strikes, in under
-// those that an unavailable range of higher rank strikes.
-pub(crate) fn sweep(
-    order: &[u64],
-    facts: &[u64],
-    back: bool,
-    usable: usize,
-    ranks: &[usize],
-    over: &mut [bool],
-    under: &mut [bool],
-)
-    requires { Ready (pairs order.now) (pairs facts.now) usable ranks.now (length over.old) (length under.old) }
-    ensures { Swept (walk back (items_of (pairs order.now) (pairs facts.now))) usable ranks.now over.old over.new under.old under.new }
+// What has been met on the way: the greatest end at each rank, of usable ranges and of unavailable ones.
+#[derive(Drop)]
+pub struct Met {
+    pub(crate) usable: Table,
+    pub(crate) unavailable: Table,
+}
+
+impl Met {
+    // The range x of a rank arrives: those that still last where it starts strike it, and it may strike
+    // later ones. A region that is marked is not asked for again.
+    fn arrive(&mut self, x: Item, rank: usize, usable: usize, found: &mut Found)
+        requires { (rank < 2048) × (usable ≤ 1024) }
+        ensures { Arrived x usable rank self.old.usable self.new.usable self.old.unavailable self.new.unavailable found.old.over found.new.over found.old.under found.new.under }
+    {
+        if x.start >= x.end {
+            return;
+        }
+        if x.owner >= usable {
+            self.unavailable.raise(rank, x.end);
+            return;
+        }
+        let i = x.owner;
+        found.over[i] = found.over[i] || self.usable.from(rank, x.start);
+        found.under[i] = found.under[i] || self.unavailable.above(rank, x.start);
+        self.usable.raise(rank, x.end);
+    }
+}
+
+// One pass: marks those that a usable range of equal or higher rank strikes, and those that an
+// unavailable range of higher rank strikes. A flag says which way, and no closure, so that one proof
+// reads the way both times.
+pub(crate) fn sweep(way: Way<'_>, back: bool, usable: usize, ranks: &[usize], found: &mut Found)
+    requires { Ready (pairs way.order.now) (pairs way.facts.now) usable ranks.now }
+    ensures { Swept (walk back (items_of (pairs way.entry.order.now) (pairs way.entry.facts.now))) usable ranks.now found.old.over found.new.over found.old.under found.new.under }
 {
-    let n = order.len() / 2;
-    let mut held = [0u64; 6144];
-    let mut own = [0u64; 6144];
-    let mut t = 0;
-    while t < n {
-        let x = next(order, facts, t, back);
-        arrive(x, usable, ranks, &mut held, &mut own, over, under);
-        t += 1;
+    let mut met = Met {
+        usable: Table::none(),
+        unavailable: Table::none(),
+    };
+    for t in 0..way.order.len() / 2 {
+        let x = way.next(t, back);
+        met.arrive(x, ranks[x.owner], usable, found);
     }
 }

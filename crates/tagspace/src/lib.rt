@@ -3,19 +3,8 @@
 #![tactic(auto)]
 
 ghost use Rattle.std.specs.Prelude.{◌≡◌, ◌+◌, leb};
-ghost use Rattle.tagspace.specs.Extent.{extent_len, len_of};
+ghost use Rattle.tagspace.specs.Extent.{extent_len};
 ghost use Rattle.tagspace.specs.Row.{blank, add_usage, remove_usage, reserve, unreserve, set_cap, fits};
-
-use numbers::{add_stop, passes, sub_stop};
-
-const TOP: u64 = 0xffff_ffff_ffff_ffff;
-
-// The most bytes that a tag's regions and reservations may hold together, if there is such a limit.
-#[derive(Clone, Copy)]
-pub enum Cap {
-    Nothing,
-    Limit(u64),
-}
 
 // Usage of one tag.
 #[derive(Clone, Copy)]
@@ -27,41 +16,26 @@ pub struct TagSpace {
     pub physical: u64,
     // Bytes reserved for the tag and not yet provisioned.
     pub reserved: u64,
-    pub cap: Cap,
+    // The most bytes that its regions and reservations may hold together, if there is such a limit.
+    pub cap: Option<u64>,
 }
 
-// What a region occupies, none past 2^64 - 1.
-#[derive(Clone, Copy)]
-pub enum ExtentLen {
-    Bytes(u64),
-    Nothing,
-}
-
-// Two header blocks and the data.
-pub fn extent_len(data_size: u64, block: u64) -> ExtentLen
-    ensures { len_of result ≡ extent_len data_size block }
+// What a region occupies, two header blocks and the data; None past 2^64 - 1.
+#[tactic(auto, using(crate::proofs::Amounts::extent_none, crate::proofs::Amounts::extent_some))]
+pub fn extent_len(data_size: u64, block: u64) -> Option<u64>
+    ensures { result ≡ extent_len data_size block }
 {
-    if passes(block, block, TOP) {
-        return ExtentLen::Nothing;
-    }
-    if passes(2 * block, data_size, TOP) {
-        return ExtentLen::Nothing;
-    }
-    ExtentLen::Bytes(2 * block + data_size)
+    block.checked_mul(2)?.checked_add(data_size)
 }
 
 // Whether a + b + c is at most limit.
 fn at_most(a: u64, b: u64, c: u64, limit: u64) -> bool
     ensures { result ≡ leb (a + b + c) limit }
 {
-    if limit < a {
-        return false;
-    }
-    let left = limit - a;
-    if left < b {
-        return false;
-    }
-    c <= left - b
+    limit
+        .checked_sub(a)
+        .and_then(|left| left.checked_sub(b))
+        .is_some_and(|left| c <= left)
 }
 
 impl TagSpace {
@@ -74,16 +48,16 @@ impl TagSpace {
             logical: 0,
             physical: 0,
             reserved: 0,
-            cap: Cap::Nothing,
+            cap: None,
         }
     }
 
-    // The row with one usage more.
+    // The row with one usage more. This and the next three are document 01's rules, each by itself.
     pub fn add_usage(mut self, logical: u64, physical: u64) -> TagSpace
         ensures { result ≡ add_usage logical physical self }
     {
-        self.logical = add_stop(self.logical, logical);
-        self.physical = add_stop(self.physical, physical);
+        self.logical = self.logical.saturating_add(logical);
+        self.physical = self.physical.saturating_add(physical);
         self
     }
 
@@ -91,8 +65,8 @@ impl TagSpace {
     pub fn remove_usage(mut self, logical: u64, physical: u64) -> TagSpace
         ensures { result ≡ remove_usage logical physical self }
     {
-        self.logical = sub_stop(self.logical, logical);
-        self.physical = sub_stop(self.physical, physical);
+        self.logical = self.logical.saturating_sub(logical);
+        self.physical = self.physical.saturating_sub(physical);
         self
     }
 
@@ -100,7 +74,7 @@ impl TagSpace {
     pub fn reserve(mut self, bytes: u64) -> TagSpace
         ensures { result ≡ reserve bytes self }
     {
-        self.reserved = add_stop(self.reserved, bytes);
+        self.reserved = self.reserved.saturating_add(bytes);
         self
     }
 
@@ -108,31 +82,25 @@ impl TagSpace {
     pub fn unreserve(mut self, bytes: u64) -> TagSpace
         ensures { result ≡ unreserve bytes self }
     {
-        self.reserved = sub_stop(self.reserved, bytes);
+        self.reserved = self.reserved.saturating_sub(bytes);
         self
     }
 
     // The row with another cap, or none.
-    pub fn set_cap(self, cap: Cap) -> TagSpace
+    pub fn set_cap(self, cap: Option<u64>) -> TagSpace
         ensures { result ≡ set_cap cap self }
     {
-        TagSpace {
-            tag: self.tag,
-            logical: self.logical,
-            physical: self.physical,
-            reserved: self.reserved,
-            cap,
-        }
+        TagSpace { cap, ..self }
     }
 
     // Whether extra bytes more are within the cap.
+    #[tactic(auto, unfolding(crate::specs::Row::fits, crate::specs::Row::allows))]
     pub fn fits(self, extra: u64) -> bool
         ensures { result ≡ fits extra self }
     {
-        let cap = self.cap;
-        match cap {
-            Cap::Nothing => true,
-            Cap::Limit(limit) => at_most(self.physical, self.reserved, extra, limit),
+        match self.cap {
+            None => true,
+            Some(limit) => at_most(self.physical, self.reserved, extra, limit),
         }
     }
 }

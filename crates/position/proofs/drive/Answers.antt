@@ -19,4 +19,4 @@ shape_of-files c =
 
 pub returns : goal.returns
 returns c =
-    drives _ _ _ _ _ _ _ _ _ _ _ _ _ _ _ _ _ _ _ _ _ _ _ _ _ _ _ c.open-a.ensures c.create-b.ensures c.grow-c.ensures c.publish-d.ensures c.locate-located.ensures c.drop-e.ensures
+    drives c.open-a.ensures c.create-b.ensures c.grow-c.ensures c.publish-d.ensures c.locate-located.ensures c.drop-e.ensures

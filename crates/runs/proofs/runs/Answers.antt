@@ -1,42 +1,18 @@
--- `runs::runs` meets its contract: each refusal by its test, and the runs as `join` writes them.
-use mathlib.Core.Bool.{false}
-use mathlib.Core.Path.{◌≡◌}
-use native.Mathlib.Omega.{arith}
-use lib.ListN.{length}
-use borrow.Author.Tests.{lt-ltb, le-ltb}
-use Rattle.runs.specs.Runs.{runs_fail}
-use Rattle.numbers.specs.Pairs.{is_odd}
-use Rattle.runs.proofs.Joining.{runs_refused, runs_accepted}
-use Rattle.numbers.proofs.Pairs.{length_pairs, odd_list, even_list}
+-- `runs::runs` meets its contract: refusal 1 by its test, and the runs as `join` writes them.
+use Rattle.std.proofs.Common.{rules, ◌≡◌, ap, sym, ◌∙◌, length}
+use Rattle.numbers.specs.Refusals.{told}
+use Rattle.numbers.proofs.Chunks.{length_ranges}
+use Rattle.numbers.specs.Refusals.{refused}
+use Rattle.runs.proofs.Joining.{runs_refused, runs_accepted, odd_fails, short_fails, enough}
 use Rattle.runs.proofs.runs.Goals as goal
-use Rattle.runs.proofs.runs.Goals.{Else-extents-ne0, Else-lens-n}
 
-even : (c : Else-extents-ne0) → is_odd c.args.extents.now ≡ false
-even c = even_list c.args.extents.now c.if-extents-ne0.false
-
-enough : (c : Else-lens-n) → runs_fail c.args.extents.now (length c.args.starts.now) (length c.args.files.now) (length c.args.lens.now) ≡ false
-unfolding runs_fail
-enough c = rw (length_pairs _) (simp ((even_list c.args.extents.now c.if-extents-ne0.false), le-ltb _ _ c.if-starts-n.false, le-ltb _ _ c.if-files-n.false, le-ltb _ _ c.if-lens-n.false))
-
-pub returns-then-extents-ne0 : goal.returns-then-extents-ne0
-unfolding runs_fail
-returns-then-extents-ne0 c = runs_refused (simp (odd_list c.args.extents.now c.if-extents-ne0.true))
+pub returns-in_err-pairs : goal.returns-in_err-pairs
+returns-in_err-pairs c =
+    let e : told c.from_residual.result ≡ refused 1 = search rules in
+    rw e (runs_refused (odd_fails _ _ _ _ c.in_err-pairs.ensures.0))
 
 pub returns-then-starts-n : goal.returns-then-starts-n
-unfolding runs_fail
-returns-then-starts-n c = runs_refused (rw (length_pairs c.args.extents.now) (simp (even (goal.at.returns-then-starts-n c).Else-extents-ne0, lt-ltb _ _ c.if-starts-n.true)))
-
-pub returns-then-files-n : goal.returns-then-files-n
-unfolding runs_fail
-returns-then-files-n c = runs_refused (rw (length_pairs c.args.extents.now) (simp (even (goal.at.returns-then-files-n c).Else-extents-ne0, le-ltb _ _ c.if-starts-n.false, lt-ltb _ _ c.if-files-n.true)))
-
-pub returns-then-lens-n : goal.returns-then-lens-n
-unfolding runs_fail
-returns-then-lens-n c = runs_refused (rw (length_pairs c.args.extents.now) (simp (even (goal.at.returns-then-lens-n c).Else-extents-ne0, le-ltb _ _ c.if-starts-n.false, le-ltb _ _ c.if-files-n.false, lt-ltb _ _ c.if-lens-n.true)))
-
-pub join-requires : goal.join-requires
-join-requires c = let e = length_pairs c.args.extents.now in (omega arith, omega arith, omega arith)
+returns-then-starts-n c = let k = c.in_ok-pairs.ensures in runs_refused (short_fails _ _ _ _ _ (ap length (sym k.1) ∙ length_ranges _) k.0 c.then-starts-n.either)
 
 pub returns : goal.returns
-unfolding runs_fail
-returns c = runs_accepted (enough (goal.at.returns c).Else-lens-n) c.join.ensures
+returns c = let k = c.in_ok-pairs.ensures in runs_accepted (enough _ _ _ _ _ (ap length (sym k.1) ∙ length_ranges _) k.0 c.if-starts-n.false c.if-files-n.false c.if-lens-n.false) (rw (sym k.1) c.join.ensures)

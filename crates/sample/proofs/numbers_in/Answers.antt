@@ -1,23 +1,12 @@
 -- `sample::numbers_in` meets its contract. The invariant is `Going`.
-use mathlib.Core.Path.{◌∙◌}
-use native.Mathlib.Omega.{arith}
 use Rattle.sample.proofs.Laws.{begins, turns, ends}
 use Rattle.sample.proofs.numbers_in.Goals as goal
 
-pub loop-i-init : goal.loop-i-init
-loop-i-init c = begins _ _
+pub loop-byte-init : goal.loop-byte-init
+loop-byte-init c = begins _ _
 
-pub read-r-requires : goal.read-r-requires
-read-r-requires c = c.loop-i.invariant.inside
-
-pub loop-i-preserved : goal.loop-i-preserved
-loop-i-preserved c = turns _ _ _ _ _ _ _ c.loop-i.invariant c.read-r.auto.out c.loop-i-test.true c.read-r.ensures
-
-pub read-r-requires-2 : goal.read-r-requires-2
-read-r-requires-2 c = c.loop-i.invariant.inside
-
-pub shape_of-out : goal.shape_of-out
-shape_of-out c = c.read-r-2.auto.out ∙ c.loop-i.invariant.long
+pub loop-byte-preserved : goal.loop-byte-preserved
+loop-byte-preserved c = turns _ _ _ _ _ c.loop-byte.invariant _ _ c.loop-byte-test.true c.read-reading.ensures
 
 pub returns : goal.returns
-returns c = ends _ _ _ _ _ _ _ c.loop-i.invariant c.read-r-2.auto.out (omega arith) c.read-r-2.ensures
+returns c = ends _ _ _ _ _ c.loop-byte.invariant _ _ c.loop-byte-test.false c.put.ensures.slots c.put.ensures.next

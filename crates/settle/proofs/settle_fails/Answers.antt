@@ -1,32 +1,31 @@
 -- `settle::settle_fails` meets its contract: each return is the case that its tests chose.
-use Prim.Native.Nat.{◌+◌, ◌≤◌}
 use mathlib.Core.Path.{sym, ◌∙◌}
-use native.Mathlib.Omega.{arith}
-use borrow.Author.Tests.{ltb-false}
-use Rattle.settle.specs.Regions.{lent}
+use Rattle.settle.specs.Regions.{lent_of}
 use Rattle.settle.proofs.Refusing.{passed, fails_usable, fails_unavailable, fails_many, fails_marks, fails_scratch}
 use Rattle.settle.proofs.settle_fails.Goals as goal
 
-pub returns-then-lent_fails : goal.returns-then-lent_fails
-returns-then-lent_fails c = fails_usable (lent _ _ _ _ _ _) (lent _ _ _ _ _ _) _ _ (sym c.lent_fails.ensures ∙ c.if-lent_fails.true)
+pub returns-then-fails : goal.returns-then-fails
+returns-then-fails c = fails_usable (lent_of c.args.usable) (lent_of c.args.unavailable) _ _ (sym c.fails.ensures ∙ c.if-fails.true)
 
-pub returns-then-lent_fails-2 : goal.returns-then-lent_fails-2
-returns-then-lent_fails-2 c = fails_unavailable (lent _ _ _ _ _ _) (lent _ _ _ _ _ _) _ _ (sym c.lent_fails-2.ensures ∙ c.if-lent_fails-2.true)
+pub returns-then-fails-2 : goal.returns-then-fails-2
+returns-then-fails-2 c = fails_unavailable (lent_of c.args.usable) (lent_of c.args.unavailable) _ _ (sym c.fails-2.ensures ∙ c.if-fails-2.true)
 
-pub ranges_in-first-requires : goal.ranges_in-first-requires
-ranges_in-first-requires c = (passed _ (lent _ _ _ _ _ _) (sym c.lent_fails.ensures ∙ c.if-lent_fails.false)).0.counts
+pub range_count-first-requires : goal.range_count-first-requires
+range_count-first-requires c = (passed _ (lent_of c.args.usable) (sym c.fails.ensures ∙ c.if-fails.false)).0.counts
 
-pub ranges_in-own-requires : goal.ranges_in-own-requires
-ranges_in-own-requires c = (passed _ (lent _ _ _ _ _ _) (sym c.lent_fails-2.ensures ∙ c.if-lent_fails-2.false)).0.counts
+pub range_count-own-requires : goal.range_count-own-requires
+range_count-own-requires c = (passed _ (lent_of c.args.unavailable) (sym c.fails-2.ensures ∙ c.if-fails-2.false)).0.counts
 
 pub returns-then-passes : goal.returns-then-passes
-returns-then-passes c = fails_many (lent _ _ _ _ _ _) (lent _ _ _ _ _ _) _ _ _ _ c.ranges_in-first.ensures c.ranges_in-own.ensures (sym c.passes.ensures ∙ c.if-passes.true)
+returns-then-passes c =
+    fails_many (lent_of c.args.usable) (lent_of c.args.unavailable) _ _ _ _ c.range_count-first.ensures c.range_count-own.ensures
+    (sym c.passes.ensures ∙ c.if-passes.true)
 
 pub returns-then-marks-usable : goal.returns-then-marks-usable
-returns-then-marks-usable c = fails_marks (lent _ _ _ _ _ _) (lent _ _ _ _ _ _) _ _ c.if-marks-usable.true
-
-pub overflow_add-result : goal.overflow_add-result
-overflow_add-result c = let h : c.ranges_in-first.result + c.ranges_in-own.result ≤ 65536 = ltb-false _ _ (sym c.passes.ensures ∙ c.if-passes.false) in omega arith
+returns-then-marks-usable c = fails_marks (lent_of c.args.usable) (lent_of c.args.unavailable) _ _ c.if-marks-usable.true
 
 pub returns : goal.returns
-returns c = fails_scratch (lent _ _ _ _ _ _) (lent _ _ _ _ _ _) _ _ _ _ c.ranges_in-first.ensures c.ranges_in-own.ensures (sym c.lent_fails.ensures ∙ c.if-lent_fails.false) (sym c.lent_fails-2.ensures ∙ c.if-lent_fails-2.false) (sym c.passes.ensures ∙ c.if-passes.false) c.if-marks-usable.false
+returns c =
+    fails_scratch (lent_of c.args.usable) (lent_of c.args.unavailable) _ _ _ _ c.range_count-first.ensures c.range_count-own.ensures
+    (sym c.fails.ensures ∙ c.if-fails.false) (sym c.fails-2.ensures ∙ c.if-fails-2.false) (sym c.passes.ensures ∙ c.if-passes.false)
+    c.if-marks-usable.false

@@ -1,6 +1,7 @@
--- `accounting::Accounting::from_entries` meets its contract: the lengths, then each entry.
-use mathlib.Core.Path.{sym}
-use Rattle.accounting.proofs.Counting.{differ_second, differ_third, differ_none, counts_bad, counts_good}
+-- `accounting::Accounting::from_entries` meets its contract: the lengths, then each usage.
+use Rattle.std.proofs.Common.{rules, false, subst, List}
+use Rattle.accounting.specs.Entries.{Usage, Counts}
+use Rattle.accounting.proofs.Counting.{differ_second, differ_third, differ_none, counts_bad, counts_good, ready_at, gather_ready}
 use Rattle.accounting.proofs.Accounting.from_entries.Goals as goal
 
 pub returns-then-tags-states : goal.returns-then-tags-states
@@ -9,8 +10,9 @@ returns-then-tags-states c = counts_bad (differ_second _ _ _ c.if-tags-states.tr
 pub returns-then-tags-data_sizes : goal.returns-then-tags-data_sizes
 returns-then-tags-data_sizes c = counts_bad (differ_third _ _ _ c.if-tags-data_sizes.true) c.refused-then-tags-data_sizes.ensures
 
-pub count_entries-requires : goal.count_entries-requires
-count_entries-requires c = (sym c.if-tags-states.false, sym c.if-tags-data_sizes.false)
-
 pub returns : goal.returns
-returns c = counts_good (differ_none _ _ _ c.if-tags-states.false c.if-tags-data_sizes.false) c.count_entries.ensures
+returns c =
+    let P : List Usage → Type 0 = λ us. Counts false us c.count_all.result in
+    counts_good (differ_none _ _ _ c.if-tags-states.false c.if-tags-data_sizes.false)
+    (subst P (gather_ready c.args.block c.args.states.now c.args.tags.now c.args.data_sizes.now)
+    (c.count_all.ensures (ready_at c.args.block c.args.states.now c.args.tags.now c.args.data_sizes.now) (λ i u h p. search rules)))

@@ -1,47 +1,41 @@
 -- `exports::accounts::fundravai_accounts_fits_each` meets its contract: each turn is one question.
-use Prim.Native.Nat.{ℕ, ◌+◌}
-use mathlib.Core.Bool.{false}
-use mathlib.Core.Path.{refl, ap}
-use native.Mathlib.Omega.{arith}
-use borrow.Author.Tests.{eq-eqb, ne_eqb}
-use Rattle.accounting.specs.Entries.{differ}
-use Rattle.exports.specs.Each.{Ask, asking}
+use Rattle.std.proofs.Common.{rules, ℕ, ◌+◌, Bool, false, cond, [], ◌∷◌, ◌++◌, length, length-append, ap, arith, ◌≡◌, ◌∙◌}
+use Rattle.std.proofs.lemmas.Slice.Zip.{zip_turn, zip_end}
+use Rattle.accounting.proofs.Counting.{differ_none}
 use Rattle.exports.proofs.Chaining.{questions_next, questions_end}
-use Rattle.flat.proofs.Chaining.{bit_is, bit_low, going_begins, going_on, going_ends}
+use Rattle.exports.proofs.Told.{unwrap_told}
+use Rattle.exports.specs.Each.{Ask, asking}
+use Rattle.flat.proofs.Chaining.{bit_is, bit_low, going_on, going_ends}
 use Rattle.numbers.proofs.Cases.{clash}
 use Rattle.exports.proofs.accounts.fundravai_accounts_fits_each.Goals as goal
 
-pub returns-then-tags-extra : goal.returns-then-tags-extra
-unfolding differ
-returns-then-tags-extra c = record { refused = λ e. refl; each = λ e. clash (simp (ne_eqb _ _ c.if-tags-extra.true)) e }
-
-pub loop-i-init : goal.loop-i-init
-loop-i-init c = (omega arith, omega arith, (false, going_begins Ask _ _ _ refl))
-
-pub offset_bounds-tags-i : goal.offset_bounds-tags-i
-offset_bounds-tags-i c = omega (arith, c.loop-i-test.true)
-
-pub bounds-tags-i : goal.bounds-tags-i
-bounds-tags-i c = omega (arith, c.loop-i-test.true, c.if-tags-extra.false)
-
-pub offset_bounds-extra-i : goal.offset_bounds-extra-i
-offset_bounds-extra-i c = omega (arith, c.loop-i-test.true)
-
-pub bounds-extra-i : goal.bounds-extra-i
-bounds-extra-i c = omega (arith, c.loop-i-test.true, c.if-tags-extra.false)
-
-pub overflow_add-fit : goal.overflow_add-fit
-overflow_add-fit c = let v = c.loop-i.invariant in let b = bit_low c.fits-asked.result.fits in omega (arith, c.loop-i-test.true, v.0, v.1, b)
-
-pub overflow_add-i : goal.overflow_add-i
-overflow_add-i c = omega (arith, c.loop-i-test.true)
-
-pub loop-i-smaller : goal.loop-i-smaller
-loop-i-smaller c = omega (arith, c.loop-i-test.true)
-
-pub loop-i-preserved : goal.loop-i-preserved
-loop-i-preserved c = let v = c.loop-i.invariant in let b = bit_low c.fits-asked.result.fits in (omega (arith, c.loop-i-test.true), omega (arith, v.1, b), (c.fits-asked.result.fits, going_on Ask _ _ v.2.1 (questions_next _ _ _ c.loop-i-test.true) (record { promise = c.fits-asked.ensures; count = ap (λ (k : ℕ). c.loop-i.fit + k) (bit_is c.fits-asked.result.fits) })))
+pub loop-tag-preserved : goal.loop-tag-preserved
+loop-tag-preserved c =
+    let v = c.loop-tag.invariant in
+    let tags : c.into_iter-tag-iterator.result.a.rest.now ≡ c.args.tags.now = search rules in
+    let extra : c.into_iter-tag-iterator.result.b.rest.now ≡ c.args.extra.now = search rules in
+    let at =
+    zip_turn c.args.tags.now c.args.extra.now c.loop-tag.yielded c.into_iter-tag-iterator.result c.loop-tag.tag-iterator
+    c.next.new.self _ tags extra c.loop-tag.yielded_by _ c.in-Some.is c.next.ensures.steps in
+    let more : length (c.loop-tag.yielded ++ ((c.in-Some.field-0-0, c.in-Some.field-0-1) ∷ [])) ≡ length c.loop-tag.yielded + 1 =
+    length-append c.loop-tag.yielded _ in
+    let low = bit_low c.unwrap_or.result in
+    let fit = bit_is _ ∙ ap (λ (b : Bool). cond b 1 0) (c.unwrap_or.ensures ∙ unwrap_told c.fits-asked.result.answer false) in
+    let turn : Ask _ _ (asking c.fits-asked.result _) =
+    record { promise = rw (← at.2 0, ← at.3 0) c.fits-asked.ensures; count = ap (λ (k : ℕ). c.loop-tag.fit + k) fit } in
+    (omega (arith, v.0, low, more), rw more (going_on Ask _ _ v.1 (questions_next _ _ _ at.0) turn))
 
 pub returns : goal.returns
-unfolding differ
-returns c = record { refused = λ e. clash e (simp (eq-eqb _ _ c.if-tags-extra.false)); each = λ e. (asking c.loop-i.refusal c.loop-i.invariant.2.0 c.loop-i.accounts c.loop-i.fit, rw (← c.accounts_from-accounts.ensures) (going_ends Ask _ _ c.loop-i.invariant.2.1 (questions_end _ _ _ c.loop-i-test.false)), refl) }
+returns c =
+    let v = c.loop-tag.invariant in
+    let tags : c.into_iter-tag-iterator.result.a.rest.now ≡ c.args.tags.now = search rules in
+    let extra : c.into_iter-tag-iterator.result.b.rest.now ≡ c.args.extra.now = search rules in
+    let all =
+    zip_end c.args.tags.now c.args.extra.now c.loop-tag.yielded c.into_iter-tag-iterator.result c.loop-tag.tag-iterator
+    c.next.new.self _ tags extra c.loop-tag.yielded_by c.in-None.is c.next.ensures.steps in
+    let none =
+    questions_end c.args.tags.now c.args.extra.now (length c.loop-tag.yielded) (omega (arith, all, c.if-tags-extra.false)) in
+    record {
+      refused = λ e. clash e (differ_none _ _ _ c.if-tags-extra.false c.if-tags-extra.false);
+      each = λ e. (asking c.loop-tag.asked c.loop-tag.fit, rw (← c.into-2.ensures) (going_ends Ask _ _ v.1 none), rw c.number_in.ensures);
+    }

@@ -1,61 +1,35 @@
--- `footprint::layout::overlapping` meets its contract: no range in front of i meets the next.
-use mathlib.Core.Path.{sym, ◌∙◌}
-use native.Mathlib.Omega.{arith}
-use borrow.Author.Tests.{lt-ltb, le-ltb}
-use Rattle.footprint.proofs.Laying.{look_begins, look_in, look_order, look_next, look_on, look_ends}
-use Rattle.numbers.proofs.Pairs.{length_pairs}
+-- `footprint::layout::overlapping` meets its contract: no range in front of the loop's meets the next.
+use Rattle.std.proofs.Common.{◌≡◌, ◌-◌, ap, sym, ◌∙◌, arith, lt-ltb, le-ltb}
+use Rattle.footprint.specs.Inner.{neighbours_meet}
+use Rattle.numbers.specs.Pairs.{pairs, ranges_in}
+use Rattle.footprint.proofs.Laying.{look_begins, look_order, look_next, look_on, look_ends}
+use Rattle.numbers.proofs.Chunks.{chunk_at, chunk_pairs, length_ranges}
 use Rattle.footprint.proofs.layout.overlapping.Goals as goal
+use Rattle.footprint.proofs.layout.overlapping.Goals.{After-as_chunks}
+
+read : (c : After-as_chunks) → ranges_in c.as_chunks.result.0.now ≡ pairs c.args.s.now
+read c = ap ranges_in c.as_chunks.ensures.front ∙ chunk_pairs c.args.s.now
 
 pub loop-i-init : goal.loop-i-init
-loop-i-init c = (omega arith, look_begins _ c.requires)
+loop-i-init c = rw (read (goal.at.loop-i-init c).After-as_chunks) (look_begins _ c.requires)
 
-pub overflow_add-i : goal.overflow_add-i
-overflow_add-i c = let g = c.loop-i.invariant in let e = length_pairs c.args.s.now in omega (arith, g.0, g.1.all)
+pub overflow_sub-offset : goal.overflow_sub-offset
+overflow_sub-offset c =
+    let cs = c.as_chunks.result.0.now in
+    look_order c.loop-i.invariant (omega (arith, length_ranges cs)) (chunk_at cs (c.loop-i.i - 1)) (chunk_at cs c.loop-i.i)
 
-pub overflow_mul-i : goal.overflow_mul-i
-overflow_mul-i c = let h = look_in c.loop-i.invariant.1 (omega (arith, c.loop-i-test.true)) in omega arith
-
-pub overflow_add-i-in-loop-i : goal.overflow_add-i-in-loop-i
-overflow_add-i-in-loop-i c = let h = look_in c.loop-i.invariant.1 (omega (arith, c.loop-i-test.true)) in omega arith
-
-pub offset_bounds-s-i : goal.offset_bounds-s-i
-offset_bounds-s-i c = let h = look_in c.loop-i.invariant.1 (omega (arith, c.loop-i-test.true)) in omega arith
-
-pub bounds-s-i : goal.bounds-s-i
-bounds-s-i c = let h = look_in c.loop-i.invariant.1 (omega (arith, c.loop-i-test.true)) in omega arith
-
-pub overflow_mul-i-in-loop-i : goal.overflow_mul-i-in-loop-i
-overflow_mul-i-in-loop-i c = let h = look_in c.loop-i.invariant.1 (omega (arith, c.loop-i-test.true)) in omega arith
-
-pub offset_bounds-s-i-in-loop-i : goal.offset_bounds-s-i-in-loop-i
-offset_bounds-s-i-in-loop-i c = let h = look_in c.loop-i.invariant.1 (omega (arith, c.loop-i-test.true)) in omega arith
-
-pub bounds-s-i-in-loop-i : goal.bounds-s-i-in-loop-i
-bounds-s-i-in-loop-i c = let h = look_in c.loop-i.invariant.1 (omega (arith, c.loop-i-test.true)) in omega arith
-
-pub overflow_sub-s : goal.overflow_sub-s
-overflow_sub-s c = look_order c.loop-i.invariant.1 (omega (arith, c.loop-i-test.true))
-
-pub overflow_mul-i-in-loop-i-2 : goal.overflow_mul-i-in-loop-i-2
-overflow_mul-i-in-loop-i-2 c = let h = look_in c.loop-i.invariant.1 (omega (arith, c.loop-i-test.true)) in omega arith
-
-pub overflow_add-i-in-loop-i-2 : goal.overflow_add-i-in-loop-i-2
-overflow_add-i-in-loop-i-2 c = let h = look_in c.loop-i.invariant.1 (omega (arith, c.loop-i-test.true)) in omega arith
-
-pub offset_bounds-s-i-in-loop-i-2 : goal.offset_bounds-s-i-in-loop-i-2
-offset_bounds-s-i-in-loop-i-2 c = let h = look_in c.loop-i.invariant.1 (omega (arith, c.loop-i-test.true)) in omega arith
-
-pub bounds-s-i-in-loop-i-2 : goal.bounds-s-i-in-loop-i-2
-bounds-s-i-in-loop-i-2 c = let h = look_in c.loop-i.invariant.1 (omega (arith, c.loop-i-test.true)) in omega arith
-
-pub returns-then-s-i : goal.returns-then-s-i
-returns-then-s-i c = sym (look_next c.loop-i.invariant.1 (omega (arith, c.loop-i-test.true)) ∙ simp (lt-ltb _ _ c.if-s-i.true))
-
-pub overflow_add-i-in-loop-i-3 : goal.overflow_add-i-in-loop-i-3
-overflow_add-i-in-loop-i-3 c = let h = look_in c.loop-i.invariant.1 (omega (arith, c.loop-i-test.true)) in omega arith
+pub returns-then-offset-before : goal.returns-then-offset-before
+returns-then-offset-before c =
+    let cs = c.as_chunks.result.0.now in
+    let n = look_next c.loop-i.invariant (omega (arith, length_ranges cs)) (chunk_at cs (c.loop-i.i - 1)) (chunk_at cs c.loop-i.i) in
+    sym (ap neighbours_meet (sym (read (goal.at.returns-then-offset-before c).After-as_chunks)) ∙ n ∙ simp (lt-ltb _ _ c.if-offset-before.true))
 
 pub loop-i-preserved : goal.loop-i-preserved
-loop-i-preserved c = (omega arith, look_on c.loop-i.invariant.1 (omega (arith, c.loop-i-test.true)) (le-ltb _ _ c.if-s-i.false))
+loop-i-preserved c =
+    let cs = c.as_chunks.result.0.now in
+    look_on c.loop-i.invariant (omega (arith, length_ranges cs)) (chunk_at cs (c.loop-i.i - 1)) (chunk_at cs c.loop-i.i) (le-ltb _ _ c.if-offset-before.false)
 
 pub returns : goal.returns
-returns c = sym (look_ends c.loop-i.invariant.1 (omega (arith, c.loop-i-test.false)))
+returns c =
+    let e = length_ranges c.as_chunks.result.0.now in
+    sym (ap neighbours_meet (sym (read (goal.at.returns c).After-as_chunks)) ∙ look_ends c.loop-i.invariant (omega arith))

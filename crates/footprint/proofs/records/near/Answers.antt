@@ -1,26 +1,17 @@
--- `footprint::records::near` meets its contract: the greater less the lower is compared with the block.
-use Prim.Native.Nat.{◌+◌, ◌<◌, ◌≤◌}
-use mathlib.Core.Bool.{and-true}
-use mathlib.Core.Path.{◌≡◌}
-use native.Mathlib.Omega.{arith}
-use borrow.Author.Tests.{lt-ltb, le-ltb}
+-- `footprint::records::near` meets its contract: both differences at once.
+use Rattle.std.proofs.Common.{ℕ, ◌≡◌, ◌+◌, ◌-◌, arith, ltb, lt-ltb, le-ltb}
+use Rattle.numbers.proofs.Cases.{cases, by_lt}
 use Rattle.footprint.specs.Footprint.{near}
-use Rattle.numbers.proofs.Cases.{by_lt, left_over}
 use Rattle.footprint.proofs.records.near.Goals as goal
 
-pub returns-then-a-b : goal.returns-then-a-b
+apart : (a b block : ℕ) → ltb ((a - b) + (b - a)) block ≡ near block a b
 unfolding near
-returns-then-a-b c =
-    let a = c.args in
-    let l = c.if-a-b.true in
-    let h : a.a < a.b + a.block = omega arith in
-    simp (left_over a.b a.a a.block (omega arith), lt-ltb _ _ h, and-true)
+apart a b block =
+    by_lt ((a - b) + (b - a)) block
+    (λ h. simp (lt-ltb _ _ h, lt-ltb b (a + block) (omega arith), lt-ltb a (b + block) (omega arith)))
+    (λ h.
+    by_lt a b (λ l. simp (le-ltb _ _ h, le-ltb b (a + block) (omega arith)))
+    (λ l. cases (ltb b (a + block)) (λ t. simp (le-ltb _ _ h, t, le-ltb a (b + block) (omega arith))) (λ f. simp (le-ltb _ _ h, f))))
 
 pub returns : goal.returns
-unfolding near
-returns c =
-    let a = c.args in
-    let l = c.if-a-b.false in
-    by_lt a.b (a.a + a.block)
-    (λ h. simp (left_over a.a a.b a.block (omega arith), lt-ltb _ _ h))
-    (λ h. let z : a.block ≡ 0 = omega arith in let g : a.b + a.block ≤ a.a = omega arith in simp (left_over a.a a.b a.block (omega arith), le-ltb _ _ h, le-ltb _ _ g))
+returns c = rw c.abs_diff.ensures (apart _ _ _)

@@ -20,4 +20,7 @@ pub returns-then-lead-start : goal.returns-then-lead-start
 returns-then-lead-start c = sym (fit_skipped _ _ _ _ _ c.requires.0 (omega (arith, c.if-lead-start.true, c.requires.1)))
 
 pub returns : goal.returns
-returns c = sym (fit_at _ _ _ _ _ c.requires.0 _ c.wrapping_add_u64.ensures.value _ c.wrapping_add_u64-at.ensures.value (omega (arith, c.if-lead-start.false, c.requires.1)) c.if-bytes-len.false (omega (arith, c.if-bytes-len-2.false)) (omega (arith, c.if-at-len.false)))
+returns c =
+    sym (fit_at _ _ _ _ _ c.requires.0 _ c.wrapping_add_u64.ensures.value _ c.wrapping_add_u64-at.ensures.value
+    (omega (arith, c.if-lead-start.false, c.requires.1)) c.if-bytes-len.false (omega (arith, c.if-bytes-len-2.false))
+    (omega (arith, c.if-at-len.false)))

@@ -1,9 +1,6 @@
-use Rattle.std.proofs.Common.{◌-◌}
+use Rattle.numbers.specs.Pairs.{ranges_in}
 use Rattle.freemap.proofs.Counting.{Summing}
 use Rattle.freemap.proofs.sum.sum_bytes.Given as goal
 
-abbrev pub invariant-loop-i : goal.invariant-loop-i
-invariant-loop-i l = Summing l.gaps l.a l.b l.i
-
-abbrev pub decreases-loop-i : goal.decreases-loop-i
-decreases-loop-i l = l.n - l.i
+abbrev pub invariant-loop-bytes : goal.invariant-loop-bytes
+invariant-loop-bytes l = Summing (ranges_in l.gaps) l.a l.b l.bytes-index

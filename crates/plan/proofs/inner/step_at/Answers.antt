@@ -1,9 +1,11 @@
+use mathlib.Core.Path.{ap, ◌∙◌}
 use native.Mathlib.Omega.{arith}
-use Rattle.plan.proofs.Stepping.{table_step, table_most, step_above}
+use Prim.Native.Nat.{ℕ}
+use lib.ListN.{get_or}
+use Rattle.plan.proofs.Stepping.{table, table_step, step_most}
 use Rattle.plan.proofs.inner.step_at.Goals as goal
 
-pub returns-then-n-ge24 : goal.returns-then-n-ge24
-returns-then-n-ge24 c = (step_above _ c.if-n-ge24.true, omega arith)
-
 pub returns : goal.returns
-returns c = (table_step c.args.n c.if-n-ge24.false, table_most c.args.n c.if-n-ge24.false)
+returns c =
+    let e = ap (λ (i : ℕ). get_or table i 0) c.min.ensures ∙ table_step c.args.n in
+    (e, omega (arith, e, step_most c.args.n))

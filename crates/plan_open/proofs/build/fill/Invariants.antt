@@ -1,10 +1,10 @@
-use Prim.Native.Nat.{◌-◌}
 use Rattle.plan_open.proofs.Placing.{Placing}
 use Rattle.plan_open.proofs.build.fill.Given as goal
 
 abbrev pub invariant-loop-i : goal.invariant-loop-i
 invariant-loop-i l =
-    Placing l.records l.count l.listed l.initial.extents l.extents l.initial.starts l.starts l.initial.files l.files l.plan.regions l.i l.at
-
-abbrev pub decreases-loop-i : goal.decreases-loop-i
-decreases-loop-i l = l.count - l.i
+    let o = l.fn.opening in
+    let a = l.initial in
+    let left = l.i-iterator.iter in
+    Placing o.records.now left.records.now o.listed.now left.listed.now a.extents l.extents a.starts l.starts a.files l.files l.regions
+    l.i-iterator.count

@@ -1,17 +1,13 @@
--- `plan_open::row::map_row` meets its contract: the extents are mappable, so that none is refused.
-use mathlib.Core.Path.{subst}
-use Rattle.regionmap.specs.Map.{Made}
-use Rattle.plan_open.proofs.Mapping.{map_roomy, row_map, map_never}
+-- `plan_open::row::map_row` meets its contract: the extents are mappable, and a row has the room, so that neither call refuses.
+use Rattle.plan_open.proofs.Mapping.{row_made, map_never}
 use Rattle.plan_open.proofs.row.map_row.Goals as goal
 
-pub roomy-requires : goal.roomy-requires
-roomy-requires c =
-    map_roomy _ _ _ _ _ _ c.requires c.from_extents-made.auto.starts c.from_extents-made.auto.files _ (subst (Made _ _ _ _ _ _) c.in-Map.is c.from_extents-made.ensures)
+pub returns-in-Ok : goal.returns-in-Ok
+returns-in-Ok c =
+    let a = c.from_extents.auto in
+    rw c.unwrap_or.ensures (row_made _ _ _ _ _ _ c.requires a.starts a.files _ c.in-Ok.ensures _ c.with_room.ensures)
 
-pub returns-in-Map : goal.returns-in-Map
-returns-in-Map c =
-    row_map _ _ _ _ _ _ c.requires c.from_extents-made.auto.starts c.from_extents-made.auto.files _ (subst (Made _ _ _ _ _ _) c.in-Map.is c.from_extents-made.ensures) _ c.roomy.ensures
-
-pub returns-in-Refused : goal.returns-in-Refused
-returns-in-Refused c =
-    map_never _ _ _ _ _ _ c.requires c.from_extents-made.auto.starts c.from_extents-made.auto.files _ (subst (Made _ _ _ _ _ _) c.in-Refused.is c.from_extents-made.ensures)
+pub returns-in-Err : goal.returns-in-Err
+returns-in-Err c =
+    let a = c.from_extents.auto in
+    map_never _ _ _ _ _ _ c.requires a.starts a.files _ c.in-Err.ensures

@@ -1,28 +1,29 @@
+use Prim.Native.Nat.{◌≤◌}
 use native.Mathlib.Omega.{arith}
-use Rattle.plan_record.proofs.Laying.{all_begins, plan_turns, all_ends, all_length}
+use lib.ListN.{length, length-take, take}
+use Rattle.plan_record.proofs.Laying.{all_begins, all_turns, all_ends, all_length}
 use Rattle.plan_record.proofs.Plan.lay_footprints.Goals as goal
 
-pub counted-n-requires : goal.counted-n-requires
-counted-n-requires c = tt
-
-pub block_of-block-requires : goal.block_of-block-requires
-block_of-block-requires c = tt
-
-pub loop-i-init : goal.loop-i-init
-loop-i-init c = (all_begins, c.block_of-block.ensures.0, c.counted-n.ensures.0, c.counted-n.ensures.1)
+pub loop-region-init : goal.loop-region-init
+loop-region-init c = all_begins
 
 pub lay-at-requires : goal.lay-at-requires
-lay-at-requires c = (c.requires, omega (arith, c.loop-i.invariant.0.few))
+lay-at-requires c =
+    let l : length (take c.counted-n.result c.args.self.regions) ≤ 64 = simp length-take (omega (arith, c.counted-n.ensures.1)) in
+    omega (arith, l, c.loop-region.invariant.few)
 
-pub loop-i-preserved : goal.loop-i-preserved
-loop-i-preserved c =
-    (plan_turns c.args.self c.loop-i.invariant.0 (omega arith) c.requires c.lay-at.ensures.lays c.lay-at.ensures.value c.lay-at.auto.out, c.loop-i.invariant.1, c.loop-i.invariant.2, c.loop-i.invariant.3)
+pub loop-region-preserved : goal.loop-region-preserved
+loop-region-preserved c =
+    all_turns c.loop-region.invariant (omega arith) c.args.rows.roomy c.lay-at.ensures.lays c.lay-at.ensures.value c.lay-at.auto.out
 
 pub shape_of-out : goal.shape_of-out
-shape_of-out c = c.loop-i.invariant.0.whole
+shape_of-out c = c.loop-region.invariant.whole
 
 pub returns : goal.returns
-returns c = record {
-  lays = all_ends c.args.self c.loop-i.invariant.0 c.loop-i.invariant.1 (omega arith);
-  value = (all_length c.args.self c.loop-i.invariant.0 c.loop-i.invariant.1 (omega arith), omega (arith, c.loop-i.invariant.0.few));
-}
+returns c =
+    let n = c.counted-n.ensures in
+    let g = c.loop-region.invariant in
+    record {
+      lays = all_ends c.args.self n.0 g c.block_of-block.ensures.0 (omega arith);
+      value = (all_length c.args.self n.0 g c.block_of-block.ensures.0 (omega arith), omega (arith, g.few, g.below, n.1, length-take c.counted-n.result c.args.self.regions));
+    }

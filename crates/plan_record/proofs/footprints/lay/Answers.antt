@@ -6,6 +6,7 @@ use Rattle.plan_record.proofs.footprints.lay.Goals as goal
 pub returns : goal.returns
 returns c =
     record {
-      lays = lays_footprint c.args.extents.now c.args.region c.requires.0 _ _ _ _ _ _ _ _ refl refl c.put_pair.ensures c.put_pair-2.ensures c.lay_extents.ensures c.put_pair.auto.s (c.put_pair-2.auto.s ∙ c.put_pair.auto.s);
-      value = omega (arith, laid_length c.args.extents.now c.args.region c.requires.0 c.args.block, c.own_count.ensures);
+      lays = lays_footprint c.args.rows.extents.now c.args.region c.args.rows.roomy _ _ _ _ _ _ _ _ refl refl c.put_pair.ensures c.put_pair-2.ensures
+          c.lay_extents.ensures c.put_pair.auto.s (c.put_pair-2.auto.s ∙ c.put_pair.auto.s);
+      value = omega (arith, laid_length c.args.rows.extents.now c.args.region c.args.rows.roomy c.args.block, c.own_count.ensures);
     }

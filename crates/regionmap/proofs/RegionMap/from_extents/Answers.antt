@@ -1,62 +1,70 @@
 -- `regionmap::RegionMap::from_extents` meets its contract: each return is a case of `Made`.
-use Prim.Native.Nat.{◌/◌, ◌≤◌}
-use mathlib.Core.Bool.{false}
-use mathlib.Core.Path.{◌≡◌, sym, ◌∙◌}
-use native.Mathlib.Omega.{arith}
-use lib.ListN.{length}
-use borrow.Author.Tests.{lt-ltb, le-ltb, ltb-false}
+use mathlib.Core.Bool.{or-true}
+use Rattle.numbers.specs.declared.refusal.Refusal.TheVariants.{Lists, Past}
+use Rattle.std.proofs.Common.{rules, ◌≡◌, ◌≤◌, false, Err, ap, sym, ◌∙◌, length, arith, lt-ltb, le-ltb, ltb-false}
 use Rattle.numbers.specs.Pairs.{pairs}
 use Rattle.numbers.specs.Range.{total}
 use Rattle.numbers.specs.Refusals.{each_extent}
 use Rattle.regionmap.specs.Map.{extents_fail, too_few, limit, passes_top}
 use Rattle.numbers.proofs.Cases.{or-false}
-use Rattle.numbers.proofs.Pairs.{length_pairs, odd_list, even_list}
+use Rattle.numbers.proofs.Chunks.{length_ranges}
+use Rattle.numbers.proofs.Refusals.{reason_above}
 use Rattle.regionmap.proofs.Making.{from_lists, from_each, from_past, made_refused, made}
 use Rattle.regionmap.proofs.RegionMap.from_extents.Goals as goal
-use Rattle.regionmap.proofs.RegionMap.from_extents.Goals.{Else-all-ne0, Else-n-gt-MOST, Else-too_few}
+use Rattle.regionmap.proofs.RegionMap.from_extents.Goals.{In_ok-capacity, Else-too_few, then-pairs-gt-MOST-via-then-pairs-gt-MOST as many, then-pairs-gt-MOST-via-else-pairs-gt-MOST+then-too_few as few}
 
 -- what the tests up to a place have shown
-few : (c : Else-n-gt-MOST) → length (pairs c.args.extents.now) ≤ limit
-few c = let l = length_pairs c.args.extents.now in omega (arith, c.if-n-gt-MOST.false)
-
 lists : (c : Else-too_few) → extents_fail c.args.extents.now c.args.starts.now c.args.files.now ≡ false
 unfolding extents_fail too_few
-lists c = simp (even_list c.args.extents.now c.if-extents-ne0.false, le-ltb limit (length c.args.extents.now / 2) c.if-n-gt-MOST.false, length_pairs c.args.extents.now, sym c.too_few.ensures ∙ c.if-too_few.false)
+lists c =
+    simp (
+      c.in_ok-pairs.ensures.0,
+      ap length (sym c.in_ok-pairs.ensures.1) ∙ length_ranges c.in_ok-pairs.pairs.now,
+      le-ltb limit (length c.in_ok-pairs.pairs.now) c.if-pairs-gt-MOST.false,
+      sym c.too_few.ensures ∙ c.if-too_few.false,
+    )
 
-places : (c : Else-too_few) → (length (pairs c.args.extents.now) ≤ length c.args.starts.now) × (length (pairs c.args.extents.now) ≤ length c.args.files.now)
-places c =
-    let l = length_pairs c.args.extents.now in
-    let o = or-false _ _ (sym c.too_few.ensures ∙ c.if-too_few.false) in
-    let s : length c.args.extents.now / 2 ≤ length c.args.starts.now = ltb-false _ _ o.0 in
-    let f : length c.args.extents.now / 2 ≤ length c.args.files.now = ltb-false _ _ o.1 in
-    (omega arith, omega arith)
+clean : (c : In_ok-capacity) → (each_extent passes_top 0 (pairs c.args.extents.now) ≡ 0) × (c.in_ok-capacity.capacity ≡ total (pairs c.args.extents.now))
+clean c = rw (sym c.in_ok-pairs.ensures.1) c.in_ok-capacity.ensures
 
-clean : (c : Else-all-ne0) → each_extent passes_top 0 (pairs c.args.extents.now) ≡ 0
-clean c = sym c.measure-all.ensures.number ∙ c.if-all-ne0.false
+pub returns-in_err-pairs : goal.returns-in_err-pairs
+unfolding extents_fail
+returns-in_err-pairs c =
+    let e : c.from_residual.result ≡ Err Lists = search rules in
+    rw e (made_refused _ _ _ _ Lists (from_lists _ _ _ _ (simp c.in_err-pairs.ensures.0)))
 
-bytes : (c : Else-all-ne0) → c.measure-all.result.bytes ≡ total (pairs c.args.extents.now)
-bytes c = c.measure-all.ensures.sum c.if-all-ne0.false
-
-pub returns-then-extents-ne0 : goal.returns-then-extents-ne0
+pub returns-then-pairs-gt-MOST : goal.returns-then-pairs-gt-MOST
 unfolding extents_fail too_few
-returns-then-extents-ne0 c = let a = c.args in made_refused _ _ _ _ 1 (λ z. omega arith) (from_lists _ _ _ _ (simp (odd_list a.extents.now c.if-extents-ne0.true)))
+returns-then-pairs-gt-MOST c =
+    let n : length (pairs c.args.extents.now) ≡ length c.in_ok-pairs.pairs.now = ap length (sym c.in_ok-pairs.ensures.1) ∙ length_ranges c.in_ok-pairs.pairs.now in
+    made_refused _ _ _ _ Lists (from_lists _ _ _ _
+    (elim c.then-pairs-gt-MOST.branch [
+      | many w ↦ rw n (simp (lt-ltb limit (length c.in_ok-pairs.pairs.now) w.if-pairs-gt-MOST.true, or-true))
+      | few w ↦ rw n (simp (sym w.too_few.ensures ∙ w.if-too_few.true, or-true))
+    ]))
 
-pub returns-then-n-gt-MOST : goal.returns-then-n-gt-MOST
-unfolding extents_fail too_few
-returns-then-n-gt-MOST c = let a = c.args in made_refused _ _ _ _ 1 (λ z. omega arith) (from_lists _ _ _ _ (simp (even_list a.extents.now c.if-extents-ne0.false, lt-ltb limit (length (pairs a.extents.now)) (omega (arith, c.if-n-gt-MOST.true, length_pairs a.extents.now)))))
+pub returns-in_err-capacity : goal.returns-in_err-capacity
+returns-in_err-capacity c =
+    let r = c.in_err-capacity.field-0.0 in
+    let e : c.from_residual-in_err-capacity.result ≡ Err r = search rules in
+    rw e (made_refused _ _ _ _ r (from_each _ _ _ _ (lists (goal.at.returns-in_err-capacity c).Else-too_few) _
+    (rw (sym c.in_ok-pairs.ensures.1) c.in_err-capacity.ensures)
+    (λ z. let h = reason_above r in absurd (omega arith))))
 
-pub returns-then-too_few : goal.returns-then-too_few
-unfolding extents_fail too_few
-returns-then-too_few c = let a = c.args in made_refused _ _ _ _ 1 (λ z. omega arith) (from_lists _ _ _ _ (simp (even_list a.extents.now c.if-extents-ne0.false, le-ltb limit (length a.extents.now / 2) c.if-n-gt-MOST.false, length_pairs a.extents.now, sym c.too_few.ensures ∙ c.if-too_few.true)))
-
-pub returns-then-all-ne0 : goal.returns-then-all-ne0
-returns-then-all-ne0 c = let a = c.args in made_refused a.extents.now a.len a.starts.now a.files.now _ c.if-all-ne0.true (from_each _ _ _ _ (lists (goal.at.returns-then-all-ne0 c).Else-too_few) _ c.measure-all.ensures.number c.if-all-ne0.true)
-
-pub returns-then-len-all : goal.returns-then-len-all
-returns-then-len-all c = let a = c.args in made_refused a.extents.now a.len a.starts.now a.files.now 23 (λ z. omega arith) (from_past _ _ _ _ (lists (goal.at.returns-then-len-all c).Else-too_few) (clean (goal.at.returns-then-len-all c).Else-all-ne0) (omega (arith, bytes (goal.at.returns-then-len-all c).Else-all-ne0, c.if-len-all.true)))
+pub returns-then-len-capacity : goal.returns-then-len-capacity
+returns-then-len-capacity c =
+    let k = clean (goal.at.returns-then-len-capacity c).In_ok-capacity in
+    made_refused _ _ _ _ Past (from_past _ _ _ _ (lists (goal.at.returns-then-len-capacity c).Else-too_few) k.0 (omega (arith, k.1, c.if-len-capacity.true)))
 
 pub lay-laid-requires : goal.lay-laid-requires
-lay-laid-requires c = let p = places (goal.at.lay-laid-requires c).Else-too_few in (clean (goal.at.lay-laid-requires c).Else-all-ne0, p.0, p.1)
+lay-laid-requires c =
+    let o = or-false _ _ (sym c.too_few.ensures ∙ c.if-too_few.false) in
+    (c.in_ok-capacity.ensures.0, ltb-false _ _ o.0, ltb-false _ _ o.1)
 
 pub returns : goal.returns
-returns c = let a = c.args in made a.extents.now a.len a.starts.now a.files.now (lists (goal.at.returns c).Else-too_few) (clean (goal.at.returns c).Else-all-ne0) (omega (arith, bytes (goal.at.returns c).Else-all-ne0, c.if-len-all.false)) (few (goal.at.returns c).Else-n-gt-MOST) (bytes (goal.at.returns c).Else-all-ne0) c.lay-laid.ensures
+returns c =
+    let a = c.args in
+    let k = clean (goal.at.returns c).In_ok-capacity in
+    let n : length (pairs a.extents.now) ≤ limit = rw (ap length (sym c.in_ok-pairs.ensures.1) ∙ length_ranges c.in_ok-pairs.pairs.now) c.if-pairs-gt-MOST.false in
+    made a.extents.now a.len a.starts.now a.files.now (lists (goal.at.returns c).Else-too_few) k.0 (omega (arith, k.1, c.if-len-capacity.false)) n k.1
+    (rw (sym c.in_ok-pairs.ensures.1) c.lay-laid.ensures)

@@ -12,8 +12,8 @@ returns-then-room-gt-MOST c = let a = c.args in room_refused _ _ _ _ (simp (lt-l
 
 pub returns-then-too_few : goal.returns-then-too_few
 unfolding room_refusal too_few refuse
-returns-then-too_few c = let a = c.args in room_refused _ _ _ _ (simp (le-ltb _ _ c.if-room-gt-MOST.false, sym c.higher-most.ensures, sym c.too_few.ensures ∙ c.if-too_few.true))
+returns-then-too_few c = let a = c.args in room_refused _ _ _ _ (simp (le-ltb _ _ c.if-room-gt-MOST.false, sym c.max-most.ensures, sym c.too_few.ensures ∙ c.if-too_few.true))
 
 pub returns : goal.returns
 unfolding room_refusal too_few refuse
-returns c = let a = c.args in room_given _ _ _ _ (simp (le-ltb _ _ c.if-room-gt-MOST.false, sym c.higher-most.ensures, sym c.too_few.ensures ∙ c.if-too_few.false)) c.if-room-gt-MOST.false _ c.higher-most.ensures
+returns c = let a = c.args in room_given _ _ _ _ (simp (le-ltb _ _ c.if-room-gt-MOST.false, sym c.max-most.ensures, sym c.too_few.ensures ∙ c.if-too_few.false)) c.if-room-gt-MOST.false _ c.max-most.ensures

@@ -1,67 +1,40 @@
--- `regionmap::build::measure` meets its contract: the extents in front of i pass their tests.
-use Prim.Native.Nat.{◌+◌, ◌*◌, ◌≤◌, ℕ, ◌<◌}
-use mathlib.Core.List.{List}
-use mathlib.Core.Path.{◌≡◌, sym, ◌∙◌}
-use native.Mathlib.Omega.{arith}
-use lib.ListN.{get_or, length}
-use borrow.Author.Tests.{ltb-false}
-use Rattle.numbers.specs.Pairs.{pairs}
-use Rattle.numbers.specs.Range.{range, blank}
-use Rattle.numbers.specs.Sums.{top}
+-- `regionmap::build::measure` meets its contract: the extents in front of the loop's pass their tests.
+use borrow.Author.Rules.{rules}
+use Rattle.std.proofs.Common.{◌≡◌, Err, refl, sym, ◌∙◌, arith}
+use Rattle.numbers.specs.declared.refusal.Refusal.TheVariants.{ExtentSum}
+use Rattle.numbers.proofs.Sums.{checked_over, checked_within}
+use Rattle.numbers.specs.Pairs.{ranges_in}
 use Rattle.regionmap.specs.Map.{passes_top}
-use Rattle.numbers.proofs.Pairs.{length_pairs, pair_in, pair_at}
-use Rattle.numbers.proofs.Refusals.{Walked, walk_begins, walk_outside, walk_over, walk_on, walk_ends, walk_sum}
+use Rattle.numbers.proofs.Chunks.{chunk_at, length_ranges}
+use Rattle.numbers.proofs.Refusals.{walk_begins, walk_outside, walk_over, walk_on, walk_ends, walk_sum}
 use Rattle.regionmap.proofs.build.measure.Goals as goal
 
--- the extent at which the walk stands
-module _ (xs : List ℕ) {n i s : ℕ} (g : Walked passes_top (pairs xs) n i s) (l : i < n) where
-  inside : 2 * i + 1 < length xs
-  inside = pair_in xs i (omega (arith, g.all))
-
-  at : get_or (pairs xs) i blank ≡ range (get_or xs (2 * i) 0) (get_or xs (2 * i + 1) 0)
-  at = pair_at xs i inside
-
-pub loop-i-init : goal.loop-i-init
-loop-i-init c = walk_begins passes_top (pairs _) _ (sym (length_pairs _))
-
-pub overflow_mul-len : goal.overflow_mul-len
-overflow_mul-len c = let h = inside _ c.loop-i.invariant c.loop-i-test.true in omega arith
-
-pub overflow_add-len : goal.overflow_add-len
-overflow_add-len c = let h = inside _ c.loop-i.invariant c.loop-i-test.true in omega arith
-
-pub offset_bounds-extents-i : goal.offset_bounds-extents-i
-offset_bounds-extents-i c = let h = inside _ c.loop-i.invariant c.loop-i-test.true in omega arith
-
-pub bounds-extents-i : goal.bounds-extents-i
-bounds-extents-i c = let h = inside _ c.loop-i.invariant c.loop-i-test.true in omega arith
-
-pub overflow_mul-i : goal.overflow_mul-i
-overflow_mul-i c = let h = inside _ c.loop-i.invariant c.loop-i-test.true in omega arith
-
-pub offset_bounds-extents-i-in-loop-i : goal.offset_bounds-extents-i-in-loop-i
-offset_bounds-extents-i-in-loop-i c = let h = inside _ c.loop-i.invariant c.loop-i-test.true in omega arith
-
-pub bounds-extents-i-in-loop-i : goal.bounds-extents-i-in-loop-i
-bounds-extents-i-in-loop-i c = let h = inside _ c.loop-i.invariant c.loop-i-test.true in omega arith
+pub loop-file-init : goal.loop-file-init
+loop-file-init c = walk_begins passes_top (ranges_in c.args.extents.now) _ refl
 
 pub returns-then-passes : goal.returns-then-passes
 unfolding passes_top
-returns-then-passes c = record { number = sym (walk_outside c.loop-i.invariant c.loop-i-test.true _ (at _ c.loop-i.invariant c.loop-i-test.true) (sym c.passes.ensures ∙ c.if-passes.true)); sum = λ z. absurd (omega arith) }
+returns-then-passes c =
+    sym (walk_outside c.loop-file.invariant (omega (arith, length_ranges c.args.extents.now)) _ (chunk_at c.args.extents.now c.loop-file.file-index)
+    (sym c.passes.ensures ∙ c.if-passes.true))
 
-pub returns-then-passes-2 : goal.returns-then-passes-2
+pub returns-in_err-bytes : goal.returns-in_err-bytes
 unfolding passes_top
-returns-then-passes-2 c = record { number = sym (walk_over c.loop-i.invariant c.loop-i-test.true _ (at _ c.loop-i.invariant c.loop-i-test.true) (sym c.passes.ensures ∙ c.if-passes.false) (sym c.passes-in-loop-i.ensures ∙ c.if-passes-2.true)); sum = λ z. absurd (omega arith) }
+returns-in_err-bytes c =
+    let e : c.from_residual.result ≡ Err ExtentSum = search rules in
+    rw e
+    (sym (walk_over c.loop-file.invariant (omega (arith, length_ranges c.args.extents.now)) _ (chunk_at c.args.extents.now c.loop-file.file-index)
+    (sym c.passes.ensures ∙ c.if-passes.false) (checked_over _ _ c.checked_add.ensures c.in_err-bytes.ensures.ok_part)))
 
-pub overflow_add-bytes : goal.overflow_add-bytes
-overflow_add-bytes c = let h : c.loop-i.bytes + get_or c.args.extents.now (2 * c.loop-i.i + 1) 0 ≤ top = ltb-false _ _ (sym c.passes-in-loop-i.ensures ∙ c.if-passes-2.false) in omega arith
-
-pub overflow_add-i : goal.overflow_add-i
-overflow_add-i c = let h = inside _ c.loop-i.invariant c.loop-i-test.true in omega arith
-
-pub loop-i-preserved : goal.loop-i-preserved
+pub loop-file-preserved : goal.loop-file-preserved
 unfolding passes_top
-loop-i-preserved c = walk_on c.loop-i.invariant c.loop-i-test.true _ (at _ c.loop-i.invariant c.loop-i-test.true) (sym c.passes.ensures ∙ c.if-passes.false) (sym c.passes-in-loop-i.ensures ∙ c.if-passes-2.false)
+loop-file-preserved c =
+    let w = checked_within _ _ c.checked_add.ensures c.in_ok-bytes.ensures.ok_part in
+    rw w.is
+    (walk_on c.loop-file.invariant (omega (arith, length_ranges c.args.extents.now)) _ (chunk_at c.args.extents.now c.loop-file.file-index)
+    (sym c.passes.ensures ∙ c.if-passes.false) w.fits)
 
 pub returns : goal.returns
-returns c = record { number = sym (walk_ends c.loop-i.invariant c.loop-i-test.false); sum = λ z. walk_sum c.loop-i.invariant c.loop-i-test.false }
+returns c =
+    let h = length_ranges c.args.extents.now in
+    (walk_ends c.loop-file.invariant (omega arith), walk_sum c.loop-file.invariant (omega arith))

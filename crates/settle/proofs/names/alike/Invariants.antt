@@ -1,9 +1,8 @@
-use Prim.Native.Nat.{◌-◌}
-use Rattle.settle.proofs.Naming.{Counting}
+use mathlib.Core.Path.{◌≡◌}
+use lib.ListN.{take}
+use Rattle.std.specs.List.{count_by}
+use Rattle.settle.proofs.Naming.{is}
 use Rattle.settle.proofs.names.alike.Given as goal
 
-abbrev pub invariant-loop-j : goal.invariant-loop-j
-invariant-loop-j l = Counting l.tag l.from l.to l.tags l.n l.j
-
-abbrev pub decreases-loop-j : goal.decreases-loop-j
-decreases-loop-j l = l.to - l.j
+abbrev pub invariant-loop-other : goal.invariant-loop-other
+invariant-loop-other l = l.n ≡ count_by (is l.tag) (take l.other-index l.tags)

@@ -1,4 +1,3 @@
-use Prim.Native.Nat.{◌-◌}
 use lib.ListN.{length}
 use Rattle.numbers.specs.Pairs.{pairs}
 use Rattle.settle.proofs.Ranking.{Walking}
@@ -6,6 +5,3 @@ use Rattle.settle.proofs.ranks.assign.Given as goal
 
 abbrev pub invariant-loop-t : goal.invariant-loop-t
 invariant-loop-t l = Walking (pairs l.keys) (length l.initial.ranks) l.ranks l.rank l.t
-
-abbrev pub decreases-loop-t : goal.decreases-loop-t
-decreases-loop-t l = l.n - l.t

@@ -1,5 +1,0 @@
--- `exports::accounts::fundravai_row_remove_usage` meets its contract: the leaf's promise of the row from flat numbers.
-use Rattle.exports.proofs.accounts.fundravai_row_remove_usage.Goals as goal
-
-pub returns : goal.returns
-returns c = rw (c.flat_row.ensures, c.remove_usage.ensures, c.row_from-row.ensures)

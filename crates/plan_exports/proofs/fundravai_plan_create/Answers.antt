@@ -1,5 +1,0 @@
--- `plan_exports::fundravai_plan_create` meets its contract: the call's promise of the plan from flat numbers.
-use Rattle.plan_exports.proofs.fundravai_plan_create.Goals as goal
-
-pub returns : goal.returns
-returns c = record { outcome = c.create-outcome.result; promise = rw (← c.plan_from-plan.ensures) c.create-outcome.ensures; flat = c.flat_outcome.ensures }

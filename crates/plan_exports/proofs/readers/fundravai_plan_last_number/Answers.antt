@@ -1,5 +1,0 @@
--- `plan_exports::readers::fundravai_plan_last_number` meets its contract: what is read of the plan from flat numbers.
-use Rattle.plan_exports.proofs.readers.fundravai_plan_last_number.Goals as goal
-
-pub returns : goal.returns
-returns c = rw (← c.plan_from-plan.ensures) c.last_number.ensures

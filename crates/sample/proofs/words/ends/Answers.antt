@@ -1,6 +1,0 @@
--- `sample::words::ends` meets its contract: each step is the part that its name says.
-use mathlib.Core.Path.{◌∙◌}
-use Rattle.sample.proofs.words.ends.Goals as goal
-
-pub returns : goal.returns
-returns c = c.same.ensures ∙ rw c.past.ensures.result_value
