@@ -5,12 +5,13 @@ use Prim.Native.Nat.{ℕ, ◌+◌, ◌*◌, ◌%◌, ◌≤◌, ◌<◌}
 use mathlib.Core.Bool.{false, not}
 use mathlib.Core.List.{List, ◌++◌}
 use mathlib.Core.Logic.{◌⊎◌, inl, inr, ⊎_elim}
-use mathlib.Core.Path.{◌≡◌, refl}
+use mathlib.Core.Path.{◌≡◌, refl, ap, sym, ◌∙◌}
 use native.Mathlib.Omega.{arith}
 use lib.Dec.{eqb}
 use lib.ListN.{length}
-use borrow.Author.Tests.{ltb-false, eqb-true, eqb-false, not-false}
-use Rattle.footprint.specs.Footprint.{entry_tests, extent_tests, max_extents, block_of, kind_code, committed, lists_fail, logs_fail, span_fails, block_fails, entry_fails, count_fails, outside, header_tests}
+use Rattle.std.specs.Prelude.{Result, Ok, Err}
+use borrow.Author.Tests.{ltb-false, eqb-true, eqb-false, ne_eqb, not-false}
+use Rattle.footprint.specs.Footprint.{entry_tests, extent_tests, max_extents, block_of, kind_code, kind_in, committed, lists_fail, logs_fail, span_fails, block_fails, entry_fails, count_fails, outside, header_tests}
 use Rattle.footprint.specs.Inner.{before_last}
 use Rattle.footprint.specs.declared.Entry.{Entry}
 use Rattle.footprint.specs.declared.Header.{Header}
@@ -22,7 +23,7 @@ use Rattle.numbers.specs.Pairs.{is_odd, pairs}
 use Rattle.numbers.specs.Range.{Range, total}
 use Rattle.numbers.specs.Refusals.{first}
 use Rattle.numbers.specs.Sums.{top}
-use Rattle.numbers.proofs.Cases.{and-true, or-true, or-false}
+use Rattle.numbers.proofs.Cases.{by_eq, and-true, or-true, or-false}
 use Rattle.numbers.proofs.Lists.{all_imp, any_false}
 use Rattle.numbers.proofs.Refusals.{first_none, first_parts, refuse_none, each_inside}
 
@@ -188,3 +189,31 @@ kinds_tell Page Slot e = absurd (omega arith)
 kinds_tell Slot Append e = absurd (omega arith)
 kinds_tell Slot Page e = absurd (omega arith)
 kinds_tell Slot Slot e = refl
+
+same_kind_in : {k j : RegionKind} → ◌≡◌ {A = Result RegionKind (Unit {0})} (Ok k) (Ok j) → k ≡ j
+same_kind_in e = cc
+
+no_kind : {k : RegionKind} → ◌≡◌ {A = Result RegionKind (Unit {0})} (Err (tt {0})) (Ok k) → ⊥
+no_kind e = let z : ◌≡◌ {A = ℕ} 0 1 = cc in omega arith
+
+-- the number read back is its kind's, and no number but a kind's is one
+pub kind_back : (k : RegionKind) → kind_in (kind_code k) ≡ Ok k
+unfolding kind_in kind_code
+kind_back Append = refl
+kind_back Page = refl
+kind_back Slot = refl
+
+kind_none : (n : ℕ) → (n ≡ 1 → ⊥) → (n ≡ 2 → ⊥) → (n ≡ 3 → ⊥) → kind_in n ≡ Err (tt {0})
+unfolding kind_in
+kind_none n a b d = simp (ne_eqb _ _ a, ne_eqb _ _ b, ne_eqb _ _ d)
+
+kinds_read : (n : ℕ) (k j : RegionKind) → n ≡ kind_code j → kind_in n ≡ Ok k → n ≡ kind_code k
+kinds_read n k j q e = q ∙ ap kind_code (same_kind_in (sym (kind_back j) ∙ ap kind_in (sym q) ∙ e))
+
+pub kind_only : (n : ℕ) (k : RegionKind) → kind_in n ≡ Ok k → n ≡ kind_code k
+unfolding kind_in kind_code
+kind_only n k e =
+    by_eq n 1 (λ q. kinds_read n k Append q e)
+    (λ a. by_eq n 2 (λ q. kinds_read n k Page q e)
+    (λ b. by_eq n 3 (λ q. kinds_read n k Slot q e)
+    (λ d. absurd (no_kind (sym (kind_none n a b d) ∙ e)))))
