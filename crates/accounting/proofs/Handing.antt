@@ -1,6 +1,7 @@
 -- What a posting hands back: of a tag that has a row, of one that has none, and of a 97th.
 use Rattle.numbers.proofs.Answers.{no_error}
 use Rattle.numbers.specs.declared.refusal.Refusal.TheVariants.{Lists, Full}
+use Rattle.numbers.specs.declared.refusal.Refusal.{Refusal}
 use Rattle.std.specs.Prelude.{Ok, Err}
 use Prim.Native.Nat.{ℕ, suc, ◌+◌, ◌-◌, ◌≤◌, ◌<◌}
 use mathlib.Core.Bool.{Bool, true}
@@ -11,8 +12,9 @@ use lib.ListN.{length, get_or, take, drop, set, replicate, length-append, length
 use lib.Seq.{set-append_left, set-get_or}
 use borrow.Author.Tests.{lt-ltb, le-ltb, eq-eqb, ne_eqb}
 use Rattle.accounting.specs.Inner.{KeepsTag, Known, Belongs, shifted, inserted}
-use Rattle.accounting.specs.Table.{Table, InTagOrder, Valid, Posts, Asks, accounts_of, table_of, tag_of, row_of, put, on_row, with_total, same, handed, asked}
+use Rattle.accounting.specs.Table.{Table, InTagOrder, Valid, Posts, Asks, Allows, answering, accounts_of, table_of, tag_of, row_of, put, on_row, with_total, same, handed, asked}
 use Rattle.accounting.specs.declared.Accounting.{Accounting}
+use Rattle.accounting.specs.declared.Asked.{Asked}
 use Rattle.accounting.specs.declared.Posted.{Posted}
 use Rattle.tagspace.specs.Row.{blank, allows, fits}
 use Rattle.tagspace.specs.declared.TagSpace.{TagSpace}
@@ -36,16 +38,17 @@ module _ (t next : Table) where
       (λ l. subst (λ (r : Posted). Valid r.accounts) (sym (handed_full l)) (accounts_valid t h o))
       (λ l. subst (λ (r : Posted). Valid r.accounts) (sym (handed_fit l)) (accounts_valid next l p))
 
--- the answer is all that is to be shown
-pub posts : (a : Accounting) (next : Table → Table) (r : Posted) → ((t : Table) → InTagOrder t.rows → InTagOrder (next t).rows) → (Valid a → r ≡ handed (table_of a) (next (table_of a))) → Posts a next r
-posts a next r keeps e =
-    record {
-      answer = e;
-      valid =
-          λ v.
-          subst (λ (p : Posted). Valid p.accounts) (sym (e v))
-          (handed_valid (table_of a) (next (table_of a)) (let c = count_rows a v in omega (arith, c, v.few)) v.order (keeps (table_of a) v.order));
-    }
+-- a record that hands back what is due is valid
+module _ (a : Accounting) (next : Table → Table) (r : Posted) (keeps : (t : Table) → InTagOrder t.rows → InTagOrder (next t).rows)
+    (e : Valid a → r ≡ handed (table_of a) (next (table_of a))) where
+  valid_after : Valid a → Valid r.accounts
+  valid_after v =
+      subst (λ (p : Posted). Valid p.accounts) (sym (e v))
+      (handed_valid (table_of a) (next (table_of a)) (let c = count_rows a v in omega (arith, c, v.few)) v.order (keeps (table_of a) v.order))
+
+  -- so the answer is all that is to be shown, and that a refusal leaves them
+  pub posts : ((n : Refusal) → r.answer ≡ Err n → r.accounts ≡ a) → Posts a next r
+  posts k = record { answer = e; valid = valid_after; refused = k }
 
 pub on_row_order : (tag : ℕ) (rule : TagSpace → TagSpace) (t : Table) → InTagOrder t.rows → InTagOrder (on_row tag rule t).rows
 unfolding on_row
@@ -69,6 +72,14 @@ module _ (k : ℕ) (x : TagSpace) (a : Accounting) where
   pub inserted_room : a.count < 96 → inserted k x a ≡ record { answer = Ok tt; accounts = record { rows = shifted k a.count x a.rows; count = a.count + 1; reserved = a.reserved } }
   unfolding inserted
   inserted_room h = simp (le-ltb 96 a.count (omega arith), ne_eqb a.count 96 (λ e. omega (arith, e, h)))
+
+-- where it is refused, nothing has changed
+pub inserted_refused : (k : ℕ) (x : TagSpace) (a : Accounting) (p : Posted) → p ≡ inserted k x a → (n : Refusal) → p.answer ≡ Err n → p.accounts ≡ a
+inserted_refused k x a p e n r =
+    by_lt 96 a.count (λ l. ap (λ (q : Posted). q.accounts) (e ∙ inserted_many k x a l))
+    (λ l.
+    by_eq a.count 96 (λ f. ap (λ (q : Posted). q.accounts) (e ∙ inserted_full k x a f))
+    (λ d. absurd (no_error tt n (sym (ap (λ (q : Posted). q.answer) (e ∙ inserted_room k x a (omega arith))) ∙ r))))
 
 module _ (a : Accounting) (v : Valid a) (tag at : ℕ) where
   abbrev xs : List TagSpace
@@ -156,10 +167,11 @@ module _ (a : Accounting) (v : Valid a) (tag at : ℕ) where
 
 module _ (a : Accounting) (tag at : ℕ) (rule : TagSpace → TagSpace) (keeps : KeepsTag rule) (x : TagSpace) where
   pub posts_known : Known a tag at → x ≡ rule (get_or a.rows at (blank 0)) → Posts a (on_row tag rule) (record { answer = Ok tt; accounts = record { rows = set a.rows at x; count = a.count; reserved = a.reserved } })
-  posts_known f q = posts a (on_row tag rule) _ (on_row_order tag rule) (λ v. post_known a v tag at f rule keeps x q)
+  posts_known f q = posts a (on_row tag rule) _ (on_row_order tag rule) (λ v. post_known a v tag at f rule keeps x q) (λ n z. absurd (no_error tt n z))
 
   pub posts_unknown : Belongs a tag at → x ≡ rule (blank tag) → (p : Posted) → p ≡ inserted at x a → Posts a (on_row tag rule) p
-  posts_unknown f q p e = posts a (on_row tag rule) p (on_row_order tag rule) (λ v. e ∙ post_unknown a v tag at f rule keeps x q)
+  posts_unknown f q p e =
+      posts a (on_row tag rule) p (on_row_order tag rule) (λ v. e ∙ post_unknown a v tag at f rule keeps x q) (inserted_refused at x a p e)
 
 -- ---- the total beside the rows
 
@@ -190,6 +202,7 @@ module _ (a : Accounting) (tag : ℕ) (rule : TagSpace → TagSpace) (total : �
       by_lt 96 (length next.rows)
       (λ l. e ∙ handed_full (table_of a) next l ∙ sym (handed_full (table_of a) (both (table_of a)) l))
       (λ l. absurd (n (ap (λ (q : Posted). q.answer) (e ∙ handed_fit (table_of a) next l)))))
+      g.refused
 
   pub total_posted : p.answer ≡ Ok tt → (n : ℕ) → n ≡ total p.accounts.reserved
       → Posts a both (record { answer = Ok tt; accounts = record { rows = p.accounts.rows; count = p.accounts.count; reserved = n } })
@@ -207,6 +220,7 @@ module _ (a : Accounting) (tag : ℕ) (rule : TagSpace → TagSpace) (total : �
       ∙ ap (λ (k : ℕ). record { answer = Ok tt; accounts = record { rows = b.rows; count = b.count; reserved = k } }) m
       ∙ ap (λ (d : Accounting). record { answer = Ok tt; accounts = d }) (total_of (total (table_of a).total) next)
       ∙ sym (handed_fit (table_of a) (both (table_of a)) l)))
+      (λ r y. absurd (no_error tt r y))
 
 -- ---- `fits`
 
@@ -215,7 +229,7 @@ module _ (a : Accounting) (tag extra at : ℕ) where
   asks p ok e q =
       record {
         answer = λ v. ap (λ (b : Bool). asked p b) (q v) ∙ ap (λ (b : Posted). asked b (fits extra (row_of tag (table_of a).rows))) (e v);
-        valid = (posts a (on_row tag same) p (on_row_order tag same) e).valid;
+        valid = valid_after a (on_row tag same) p (on_row_order tag same) e;
       }
 
   pub asks_known : Known a tag at → (ok : Bool) → ok ≡ fits extra (get_or a.rows at (blank 0)) → Asks a tag extra (record { answer = Ok ok; accounts = a })
@@ -224,3 +238,23 @@ module _ (a : Accounting) (tag extra at : ℕ) where
   pub asks_unknown : Belongs a tag at → (x : TagSpace) → x ≡ blank tag → (p : Posted) → p ≡ inserted at x a → Asks a tag extra (asked p true)
   unfolding fits allows
   asks_unknown f x q p e = asks p true (λ v. e ∙ post_unknown a v tag at f same (λ r. refl) x q) (λ v. ap (fits extra) (sym (no_row a v tag at f)))
+
+  -- the same answer of accounts in which no row is made
+  pub allows_asked : (q : Asked) → Asks a tag extra q → Allows a tag extra q.answer
+  allows_asked q k = record { answer = λ v. ap (λ (r : Asked). r.answer) (k.answer v) }
+
+  pub allows_full : Belongs a tag at → 96 ≤ a.count → Allows a tag extra (Err Full)
+  allows_full f h =
+      record {
+        answer =
+            λ v.
+            let e : inserted at (blank tag) a ≡ handed (table_of a) (on_row tag same (table_of a)) =
+            post_unknown a v tag at f same (λ r. refl) (blank tag) refl in
+            ap (λ (p : Posted). answering (fits extra (row_of tag (table_of a).rows)) p.answer)
+            (sym (inserted_full at (blank tag) a (omega (arith, v.few))) ∙ e);
+      }
+
+  pub allows_room : Belongs a tag at → a.count < 96 → Allows a tag extra (Ok true)
+  allows_room f h =
+      subst (λ (p : Posted). Allows a tag extra (answering true p.answer)) (inserted_room at (blank tag) a h)
+      (allows_asked _ (asks_unknown f (blank tag) refl (inserted at (blank tag) a) refl))

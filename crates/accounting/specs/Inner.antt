@@ -48,10 +48,6 @@ Sought a tag (Err at) = Belongs a tag at
 unfoldable pub shifted : ℕ → ℕ → TagSpace → List TagSpace → List TagSpace
 shifted k n x rs = take k rs ++ (x ∷ (take (n - k) (drop k rs) ++ drop (suc n) rs))
 
--- What a call answers, and the accounts that it leaves.
-abbrev pub leaving : Result (Unit {0}) Refusal → Accounting → Posted
-leaving answer accounts = record { answer = answer; accounts = accounts }
-
 -- A record with one row more, where there is room.
 unfoldable pub inserted : ℕ → TagSpace → Accounting → Posted
 inserted k x a =

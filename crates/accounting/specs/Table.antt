@@ -77,10 +77,16 @@ handed t next =
     cond (ltb 96 (length next.rows)) (record { answer = Err Full; accounts = accounts_of t })
     (record { answer = Ok tt; accounts = accounts_of next })
 
--- What a call on a tag promises: of a record that a call handed back, the answer, and that it hands back such a record.
+-- What a call on a tag promises: of a record that a call handed back, the answer, and that it hands back such a record; of every record,
+-- "A refused call returns its number alone and changes nothing".
 pub record Posts (a : Accounting) (next : Table → Table) (r : Posted) : Type 0 where
   pub answer : Valid a → r ≡ handed (table_of a) (next (table_of a))
   pub valid : Valid a → Valid r.accounts
+  pub refused : (n : Refusal) → r.answer ≡ Err n → r.accounts ≡ a
+
+-- A call's answer, and the accounts as it left them.
+abbrev pub leaving : Result (Unit {0}) Refusal → Accounting → Posted
+leaving answer accounts = record { answer = answer; accounts = accounts }
 
 -- An answer in place of that a call is done.
 abbrev pub answering : Bool → Result (Unit {0}) Refusal → Result Bool Refusal
@@ -94,3 +100,7 @@ asked p ok = record { answer = answering ok p.answer; accounts = p.accounts }
 pub record Asks (a : Accounting) (tag extra : ℕ) (r : Asked) : Type 0 where
   pub answer : Valid a → r ≡ asked (handed (table_of a) (on_row tag same (table_of a))) (fits extra (row_of tag (table_of a).rows))
   pub valid : Valid a → Valid r.accounts
+
+-- What `allows` promises: the answer of `fits`, of accounts in which it makes no row.
+pub record Allows (a : Accounting) (tag extra : ℕ) (r : Result Bool Refusal) : Type 0 where
+  pub answer : Valid a → r ≡ answering (fits extra (row_of tag (table_of a).rows)) (handed (table_of a) (on_row tag same (table_of a))).answer

@@ -118,7 +118,7 @@ impl Accounting {
     pub fn add_usage(mut self, tag: u32, logical: u64, physical: u64) -> Posted
         ensures { Posts self (on_row tag (add_usage logical physical)) result }
     {
-        let answer = self.post(tag, |row| row.add_usage(logical, physical));
+        let answer = self.count_usage(tag, logical, physical);
         Posted {
             answer,
             accounts: self,
@@ -129,7 +129,7 @@ impl Accounting {
     pub fn remove_usage(mut self, tag: u32, logical: u64, physical: u64) -> Posted
         ensures { Posts self (on_row tag (remove_usage logical physical)) result }
     {
-        let answer = self.post(tag, |row| row.remove_usage(logical, physical));
+        let answer = self.uncount_usage(tag, logical, physical);
         Posted {
             answer,
             accounts: self,
@@ -187,7 +187,7 @@ impl Accounting {
     pub fn set_cap(mut self, tag: u32, cap: Option<u64>) -> Posted
         ensures { Posts self (on_row tag (set_cap cap)) result }
     {
-        let answer = self.post(tag, |row| row.set_cap(cap));
+        let answer = self.limit(tag, cap);
         Posted {
             answer,
             accounts: self,
@@ -195,15 +195,15 @@ impl Accounting {
     }
 
     // Bytes reserved and not yet provisioned, all tags.
-    pub fn reserved(self) -> u64
-        ensures { result ≡ (table_of self).total }
+    pub fn reserved(&self) -> u64
+        ensures { result ≡ (table_of self.now).total }
     {
         self.reserved
     }
 
     // The row of a tag, a blank one where it has none.
-    pub fn row(self, tag: u32) -> TagSpace
-        ensures { Valid self → result ≡ row_of tag (table_of self).rows }
+    pub fn row(&self, tag: u32) -> TagSpace
+        ensures { Valid self.now → result ≡ row_of tag (table_of self.now).rows }
     {
         match self.find(tag) {
             Ok(at) => self.rows[at],
@@ -213,8 +213,8 @@ impl Accounting {
 
     // The row at a place in tag order, a blank one behind the last.
     #[tactic(auto, using(crate::proofs::Tables::row_of_record, crate::proofs::Tables::row_behind_all))]
-    pub fn row_at(self, i: usize) -> TagSpace
-        ensures { Valid self → result ≡ get_or (table_of self).rows i (blank 0) }
+    pub fn row_at(&self, i: usize) -> TagSpace
+        ensures { Valid self.now → result ≡ get_or (table_of self.now).rows i (blank 0) }
     {
         if i < MOST {
             return self.rows[i];

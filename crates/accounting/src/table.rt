@@ -1,8 +1,9 @@
 // The rows in tag order: where a tag's row stands, and the calls on it. They change the accounts where they
 // stand: to hand 96 rows to a call and back costs more than the call.
 ghost use Rattle.std.specs.Prelude.{◌≡◌, ◌≤◌};
-ghost use Rattle.accounting.specs.Inner.{KeepsTag, Sought, leaving, inserted};
-ghost use Rattle.accounting.specs.Table.{Posts, Asks, on_row, reserving, unreserving};
+ghost use Rattle.accounting.specs.Inner.{KeepsTag, Sought, inserted};
+ghost use Rattle.accounting.specs.Table.{Posts, Asks, Allows, leaving, on_row, reserving, unreserving};
+ghost use Rattle.tagspace.specs.Row.{add_usage, remove_usage, set_cap};
 ghost use Rattle.tagspace.specs.declared.TagSpace.{TagSpace};
 
 use crate::{Accounting, MOST};
@@ -54,6 +55,39 @@ impl Accounting {
                 Ok(())
             }
             Err(at) => self.insert(at, rule(TagSpace::blank(tag))),
+        }
+    }
+
+    // Counts a region of a tag, in accounts that stay where they are.
+    pub fn count_usage(&mut self, tag: u32, logical: u64, physical: u64) -> Result<(), Refusal>
+        ensures { Posts self.old (on_row tag (add_usage logical physical)) (leaving result self.new) }
+    {
+        self.post(tag, |row| row.add_usage(logical, physical))
+    }
+
+    // Stops counting a region of a tag.
+    pub fn uncount_usage(&mut self, tag: u32, logical: u64, physical: u64) -> Result<(), Refusal>
+        ensures { Posts self.old (on_row tag (remove_usage logical physical)) (leaving result self.new) }
+    {
+        self.post(tag, |row| row.remove_usage(logical, physical))
+    }
+
+    // Sets a tag's cap, or clears it.
+    pub fn limit(&mut self, tag: u32, cap: Option<u64>) -> Result<(), Refusal>
+        ensures { Posts self.old (on_row tag (set_cap cap)) (leaving result self.new) }
+    {
+        self.post(tag, |row| row.set_cap(cap))
+    }
+
+    // Whether extra bytes more are within a tag's cap, as `fits` answers it. No row is made.
+    pub fn allows(&self, tag: u32, extra: u64) -> Result<bool, Refusal>
+        ensures { Allows self.now tag extra result }
+    {
+        match self.find(tag) {
+            Ok(at) => Ok(self.rows[at].fits(extra)),
+            Err(_) if self.count >= MOST => Err(Refusal::Full),
+            // a new row has no cap
+            Err(_) => Ok(true),
         }
     }
 

@@ -15,8 +15,6 @@ use lib.Dec.{eqb, leb}
 use lib.ListN.{length, take, set, length-map, length-set}
 use lib.Seq.{take-suc-set, map-set_same}
 use borrow.Author.Tests.{eq-eqb, ne_eqb, lt-ltb, le-ltb, le-leb, lt-leb}
-use Rattle.accounting.specs.declared.Accounting.{Accounting}
-use Rattle.accounting.specs.declared.Asked.{Asked}
 use Rattle.accounting.specs.declared.Posted.{Posted}
 use Rattle.model.specs.Span.{least_free}
 use Rattle.numbers.specs.Lists.{All, any, same, Distinct}
@@ -46,6 +44,7 @@ use Rattle.plan_record.proofs.Holding.{block_is}
 use Rattle.plan_record.proofs.Known.{region_at, known_here, known_not, counted_is}
 use Rattle.plan_record.proofs.Tags.{table_in, Taken, posting_taken, with-tag, accounted_added, if_none}
 use Rattle.plan.proofs.Asking.{asked_full, asked_fits}
+use Rattle.plan.proofs.Capping.{with_accounts}
 use Rattle.plan.proofs.Refusing.{called_refused, called_accepted, Accepts}
 use Rattle.accounting.specs.Table as accounting
 use Rattle.model.specs.Calls as model
@@ -137,11 +136,11 @@ module _ (p : Plan) (id tag : ℕ) (name : List ℕ) where
             let h : 64 ≤ length (world_of p xs).regions = omega arith in
             simp (le-ltb _ _ t₁, k, named_not xs, le-leb _ _ h))
 
-        module _ (t₆₄ : m < 64) (block : ℕ) (b₀ : block ≡ block_in p) (q : Asked) (o : accounting.Asks p.accounts tag (2 * block) q) where
+        module _ (t₆₄ : m < 64) (block : ℕ) (b₀ : block ≡ block_in p) (q : Result Bool Refusal) (o : accounting.Allows p.accounts tag (2 * block) q) where
           few_not : (xs : List ℕ) → leb 64 (length (world_of p xs).regions) ≡ false
           few_not xs = let n = regions_many p xs in lt-leb 64 (length (world_of p xs).regions) (omega arith)
 
-          pub create_tags : (e : Refusal) → q.answer ≡ Err e → CreateTested p id tag name (refusal_number e)
+          pub create_tags : (e : Refusal) → q ≡ Err e → CreateTested p id tag name (refusal_number e)
           unfolding first refuse
           create_tags e h =
               tested e
@@ -150,7 +149,7 @@ module _ (p : Plan) (id tag : ℕ) (name : List ℕ) where
               let k = known_not p xs id t₁₄ in
               simp (le-ltb _ _ t₁, k, named_not xs, f.0, f.1, or-true))
 
-          module _ (c : Bool) (t₁₉ : q.answer ≡ Ok c) where
+          module _ (c : Bool) (t₁₉ : q ≡ Ok c) where
             tag_not : (xs ss fs : List ℕ) → Valid p xs ss fs → model.tag_full (world_of p xs) tag ≡ false
             tag_not xs ss fs v = (asked_fits p xs ss fs v tag (2 * block) q o c t₁₉).0
 
@@ -202,11 +201,11 @@ module _ (p : Plan) (id tag : ℕ) (name : List ℕ) where
 
 -- ---- the region that is added
 
-pub adds : (p : Plan) (id tag : ℕ) (name : List ℕ) (at : ℕ) (a : Accounting) (m : ℕ) → m ≡ length (regions_of p) → (own : Name) → text_of own ≡ name
+pub adds : (p : Plan) (id tag : ℕ) (name : List ℕ) (at : ℕ) (m : ℕ) → m ≡ length (regions_of p) → (own : Name) → text_of own ≡ name
     → (block : ℕ) → block ≡ block_in p → (g : Region)
     → g ≡ fresh (region_at p m).row id tag own p.limits.log2_block at block (p.last + 1)
-    → Adds p id tag name at a (record { limits = p.limits; last = p.last + 1; count = m + 1; regions = set p.regions m g; accounts = a })
-adds p id tag name at a m e own n block b g h = record { own = own; named = n; is = rw (h, b, e) }
+    → Adds p id tag name at (record { limits = p.limits; last = p.last + 1; count = m + 1; regions = set p.regions m g; accounts = p.accounts })
+adds p id tag name at m e own n block b g h = record { own = own; named = n; is = rw (h, b, e) }
 
 -- ---- the returns
 
@@ -257,7 +256,7 @@ module _ (p : Plan) (xs ss fs : List ℕ) (id tag : ℕ) (name : List ℕ) where
       pub create_never : (e : Refusal) → q.answer ≡ Err e → Refuses e
       create_never e h = called_refused p c xs ss fs e (λ v. absurd (no_error tt e (sym (taken v).number ∙ h)))
 
-      module _ (r : Plan) (x : Adds p id tag name at q.accounts r) where
+      module _ (r : Plan) (x : Adds (with_accounts p q.accounts) id tag name at r) where
         abbrev m : ℕ
         m = length (regions_of p)
 
@@ -265,7 +264,7 @@ module _ (p : Plan) (xs ss fs : List ℕ) (id tag : ℕ) (name : List ℕ) where
         g = fresh (region_at p m).row id tag x.own p.limits.log2_block at (block_in p) (p.last + 1)
 
         abbrev p' : Plan
-        p' = with_new p g q.accounts
+        p' = with_new (with_accounts p q.accounts) g
 
         module _ (v : Valid p xs ss fs) where
           placed : least_free (world_of p xs) (model.header_len (world_of p xs)) ≡ Some at

@@ -16,7 +16,6 @@ use lib.ListN.{length, take, set, get_or, length-take}
 use lib.Seq.{take-suc-set, length-take-le, get_or-set_same}
 use borrow.Author.Tests.{le-leb, lt-leb, lt-ltb}
 use borrow.Rule.Slice.PartMut.{mid_of, put_mid, put_same}
-use Rattle.accounting.specs.declared.Asked.{Asked}
 use Rattle.accounting.specs.declared.Posted.{Posted}
 use Rattle.footprint.specs.Footprint.{kind_code}
 use Rattle.footprint.specs.declared.RegionKind.TheVariants.{Slot}
@@ -115,7 +114,7 @@ module _ (p : Plan) (xs ss fs : List ℕ) (v : Valid p xs ss fs) (i : ℕ) (insi
   tag_not : model.tag_full (world_of p xs) (region_at p i).tag ≡ false
   tag_not = row_no_full (world_of p xs) (region_at p i).tag (tagged_is p xs ss fs v i inside)
 
-  cap_here : (q : Asked) → accounting.Asks p.accounts (region_at p i).tag (len_at p i) q → (b : Bool) → q.answer ≡ Ok b
+  cap_here : (q : Result Bool Refusal) → accounting.Allows p.accounts (region_at p i).tag (len_at p i) q → (b : Bool) → q ≡ Ok b
       → model.cap_fails (world_of p xs) own.tag (model.step_len (world_of p xs) own) ≡ not b
   cap_here q o b h =
       ap (λ (r : region.Region). model.cap_fails (world_of p xs) r.tag (model.step_len (world_of p xs) own)) region_here
@@ -146,18 +145,18 @@ module _ (p : Plan) (i : ℕ) (inside : i < length (regions_of p)) where
           let q : 60 ≤ length (model.region_in (world_of p xs) id).extents = omega arith in
           simp (known_region p xs ss fs v i inside id e, slot_is p xs ss fs v i inside id e ∙ sym b₀ ∙ t₁₇, le-leb _ _ q))
 
-      module _ (t₁₉ : (region_at p i).extent_count < 60) (len : ℕ) (l₀ : len ≡ len_at p i) (q : Asked) (o₀ : accounting.Asks p.accounts (region_at p i).tag len q) where
-        o : accounting.Asks p.accounts (region_at p i).tag (len_at p i) q
-        o = subst (λ (n : ℕ). accounting.Asks p.accounts (region_at p i).tag n q) l₀ o₀
+      module _ (t₁₉ : (region_at p i).extent_count < 60) (len : ℕ) (l₀ : len ≡ len_at p i) (q : Result Bool Refusal) (o₀ : accounting.Allows p.accounts (region_at p i).tag len q) where
+        o : accounting.Allows p.accounts (region_at p i).tag (len_at p i) q
+        o = subst (λ (n : ℕ). accounting.Allows p.accounts (region_at p i).tag n q) l₀ o₀
 
         -- the tag has a row, so it is no 97th
-        pub grow_tags : (e : Refusal) → q.answer ≡ Err e → GrowTested p i (refusal_number e)
+        pub grow_tags : (e : Refusal) → q ≡ Err e → GrowTested p i (refusal_number e)
         grow_tags e h =
             tested e
             (λ xs ss fs v id y.
             absurd (clash (asked_full p xs ss fs v (region_at p i).tag (len_at p i) q o e h).0 (tag_not p xs ss fs v i inside id y)))
 
-        module _ (c : Bool) (a : q.answer ≡ Ok c) where
+        module _ (c : Bool) (a : q ≡ Ok c) where
           pub grow_capped : c ≡ false → GrowTested p i 21
           unfolding first refuse
           grow_capped h =

@@ -8,7 +8,11 @@ use Rattle.plan_record.specs.Plan.{Valid, world_of, reply_of, lists_short, place
 use Rattle.plan_record.specs.declared.Outcome.{Outcome}
 use Rattle.plan_record.specs.declared.Plan.{Plan}
 
--- What a call promises that may change the plan: of a valid plan, its answer, the plan that it hands back and that plan's world are the
+-- A call's answer, and the plan as it left it.
+abbrev pub left : Reply → Plan → Outcome
+left r p = record { reply = r; plan = p }
+
+-- What a call promises that may change the plan: of a valid plan, its answer, the plan that it leaves and that plan's world are the
 -- model's; of every record, "A refused call returns its number alone and changes nothing".
 pub record Called (p : Plan) (c : Call) (xs₀ ss₀ fs₀ xs ss fs : List ℕ) (r : Outcome) : Type 0 where
   pub answer : Valid p xs₀ ss₀ fs₀ → reply_of r.reply ≡ answer_to (world_of p xs₀) c
@@ -33,7 +37,7 @@ pub record Leaves (p : Plan) (c : Call) (xs₀ ss₀ fs₀ xs ss fs : List ℕ) 
 abbrev pub OnePlace : {A : Type 0} → ℕ → List A → List A → Type 0
 OnePlace {A} row l₀ l = (l ≡ l₀) ⊎ ((k : ℕ) × (v : A) × (k < 60) × (l ≡ set l₀ (60 * row + k) v))
 
--- Of grow, on every record: the row is that of the region in the plan handed back, so that slots behind the 64 rows keep their content
+-- Of grow, on every record: the row is that of the region in the plan that it leaves, so that slots behind the 64 rows keep their content
 -- (`place_behind` of proofs/Slots).
 pub record Grows (p : Plan) (c : Call) (id : ℕ) (xs₀ ss₀ fs₀ xs ss fs : List ℕ) (r : Outcome) : Type 0 where
   pub called : Called p c xs₀ ss₀ fs₀ xs ss fs r

@@ -1,7 +1,6 @@
 -- What the inner functions of the calls compute.
 use Rattle.numbers.specs.declared.refusal.Refusal.{Refusal}
 use Rattle.std.specs.Prelude.{ℕ, suc, ◌+◌, ◌-◌, ◌*◌, ◌≤◌, ◌<◌, min, max, List, ◌∷◌, ◌++◌, ◌≡◌, length, take, drop, set, get_or, Err}
-use Rattle.accounting.specs.declared.Accounting.{Accounting}
 use Rattle.footprint.specs.declared.RegionKind.TheVariants.{Append}
 use Rattle.model.specs.Calls.{step, create_tests, grow_tests}
 use Rattle.numbers.specs.Refusals.{first}
@@ -18,10 +17,6 @@ use Rattle.regionmap.specs.declared.RegionMap.{RegionMap}
 -- A refused call.
 abbrev pub refusing : Plan → Refusal → Outcome
 refusing p n = record { reply = Err n; plan = p }
-
--- A call's answer with the plan as it left it.
-abbrev pub left : Reply → Plan → Outcome
-left r p = record { reply = r; plan = p }
 
 -- Regions of which the one at i goes behind the first n, and those between move up.
 unfoldable pub moved : ℕ → ℕ → List Region → List Region
@@ -90,15 +85,15 @@ pub record GrowTested (p : Plan) (i n : ℕ) : Type 0 where
   pub told : (xs ss fs : List ℕ) → Valid p xs ss fs → (id : ℕ) → i ≡ spot_of p id → first (grow_tests (world_of p xs) id) ≡ n
   pub few : n ≡ 0 → (get_or p.regions i past_region).extent_count < 60
 
--- A plan with a region more, and the accounts that count it.
-abbrev pub with_new : Plan → Region → Accounting → Plan
-with_new p g a =
+-- A plan with a region more.
+abbrev pub with_new : Plan → Region → Plan
+with_new p g =
     record {
       limits = p.limits;
       last = p.last + 1;
       count = length (regions_of p) + 1;
       regions = set p.regions (length (regions_of p)) g;
-      accounts = a;
+      accounts = p.accounts;
     }
 
 -- The bytes of the next extent of the region at i.
@@ -106,7 +101,7 @@ abbrev pub len_at : Plan → ℕ → ℕ
 len_at p i = step (get_or p.regions i past_region).extent_count * block_in p
 
 -- What `add_region` makes, with the name's bytes at the front of 24.
-pub record Adds (p : Plan) (id tag : ℕ) (name : List ℕ) (at : ℕ) (a : Accounting) (r : Plan) : Type 0 where
+pub record Adds (p : Plan) (id tag : ℕ) (name : List ℕ) (at : ℕ) (r : Plan) : Type 0 where
   pub own : Name
   pub named : text_of own ≡ name
-  pub is : r ≡ with_new p (fresh (get_or p.regions (length (regions_of p)) past_region).row id tag own p.limits.log2_block at (block_in p) (p.last + 1)) a
+  pub is : r ≡ with_new p (fresh (get_or p.regions (length (regions_of p)) past_region).row id tag own p.limits.log2_block at (block_in p) (p.last + 1))

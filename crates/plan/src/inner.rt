@@ -1,27 +1,16 @@
 // What the calls on a plan are made of.
-ghost use Rattle.std.specs.Prelude.{IfSome, ◌||◌, ◌≡◌, ◌<◌, ◌≤◌, ◌/◌, ltb, length};
+ghost use Rattle.std.specs.Prelude.{◌||◌, ◌≡◌, ◌<◌, ◌≤◌, ◌/◌, ltb, length};
 ghost use Rattle.numbers.specs.Refusals.{refusal_in};
 ghost use Rattle.numbers.specs.Sums.{top};
-ghost use Rattle.plan_record.specs.Plan.{regions_of, place_in};
+ghost use Rattle.plan_record.specs.Plan.{regions_of};
 ghost use Rattle.model.specs.Calls.{step};
 ghost use Rattle.plan.specs.Inner.{rotated, stretched, fresh, CreateTested, GrowTested, Adds, len_at};
 
-use accounting::Accounting;
 use footprint::{RegionKind, block_of};
 use numbers::Refusal;
 use plan_record::names::Name;
 use plan_record::{Plan, Region};
 use regionmap::RegionMap;
-
-// The place of the region with the number. Of a plan by value the bounds are known, and of one that is lent
-// they are not.
-pub(crate) fn seek(plan: Plan, id: u64) -> Option<usize>
-    ensures place { result ≡ place_in plan id }
-    ensures below { IfSome result (λ i. i < 64) }
-    ensures full { length plan.regions ≡ 64 }
-{
-    plan.find(id)
-}
 
 // How many blocks an extent has, by how many there are already: it doubles with every second one. Document
 // 01 asks for the constant list.
@@ -105,8 +94,8 @@ pub(crate) fn rotate(plan: &mut Plan, i: usize)
 }
 
 // Why create is refused before room is looked for, if it is.
-pub(crate) fn create_test(plan: Plan, id: u64, tag: u32, name: &[u8]) -> Result<(), Refusal>
-    ensures { CreateTested plan id tag name.now (refusal_in result) }
+pub(crate) fn create_test(plan: &Plan, id: u64, tag: u32, name: &[u8]) -> Result<(), Refusal>
+    ensures { CreateTested plan.now id tag name.now (refusal_in result) }
 {
     if name.len() > 24 {
         return Err(Refusal::Lists);
@@ -120,9 +109,8 @@ pub(crate) fn create_test(plan: Plan, id: u64, tag: u32, name: &[u8]) -> Result<
     if plan.counted() >= 64 {
         return Err(Refusal::Full);
     }
-    let accounts = plan.accounts;
-    let asked = accounts.fits(tag, 2 * block_of(plan.limits.log2_block));
-    let fits = asked.answer?;
+    let two = 2 * block_of(plan.limits.log2_block);
+    let fits = plan.accounts.allows(tag, two)?;
     if plan.last == u64::MAX {
         return Err(Refusal::LastNumber);
     }
@@ -133,9 +121,9 @@ pub(crate) fn create_test(plan: Plan, id: u64, tag: u32, name: &[u8]) -> Result<
 }
 
 // Why growing the region at place i is refused before room is looked for, if it is.
-pub(crate) fn grow_test(plan: Plan, i: usize, len: u64) -> Result<(), Refusal>
-    requires { (i < length (regions_of plan)) × (len ≡ len_at plan i) }
-    ensures { GrowTested plan i (refusal_in result) }
+pub(crate) fn grow_test(plan: &Plan, i: usize, len: u64) -> Result<(), Refusal>
+    requires { (i < 64) × (i < length (regions_of plan.now)) × (len ≡ len_at plan.now i) }
+    ensures { GrowTested plan.now i (refusal_in result) }
 {
     let region = plan.regions[i];
     if region.kind == RegionKind::Slot {
@@ -144,9 +132,7 @@ pub(crate) fn grow_test(plan: Plan, i: usize, len: u64) -> Result<(), Refusal>
     if region.extent_count >= 60 {
         return Err(Refusal::Full);
     }
-    let accounts = plan.accounts;
-    let asked = accounts.fits(region.tag, len);
-    let fits = asked.answer?;
+    let fits = plan.accounts.allows(region.tag, len)?;
     if !fits {
         return Err(Refusal::OverCap);
     }
@@ -154,16 +140,9 @@ pub(crate) fn grow_test(plan: Plan, i: usize, len: u64) -> Result<(), Refusal>
 }
 
 // Gives the plan a region more, in the next free row, its header blocks at the byte at.
-pub(crate) fn add_region(
-    plan: &mut Plan,
-    id: u64,
-    tag: u32,
-    name: &[u8],
-    at: u64,
-    accounts: Accounting,
-)
+pub(crate) fn add_region(plan: &mut Plan, id: u64, tag: u32, name: &[u8], at: u64)
     requires { (length (regions_of plan.old) < 64) × (plan.old.last ≡ top → ⊥) × (length name.now ≤ 24) }
-    ensures { Adds plan.old id tag name.now at accounts plan.new }
+    ensures { Adds plan.old id tag name.now at plan.new }
 {
     let count = plan.counted();
     let row = plan.regions[count].row;
@@ -180,5 +159,4 @@ pub(crate) fn add_region(
     );
     plan.count = count + 1;
     plan.last = seq;
-    plan.accounts = accounts;
 }

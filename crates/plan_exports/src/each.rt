@@ -1,9 +1,10 @@
 // Calls one after another, for the benchmark: a plan as flat numbers and back costs more than most calls.
 ghost use Rattle.flat_plan.specs.Plan.{plan_from};
+ghost use Rattle.plan.specs.Calls.{left};
 ghost use Rattle.plan_exports.specs.Each.{Calls, CallsEach, LocatesEach};
 
 use flat_plan::{FlatPlan, FlatReply};
-use plan_record::{Outcome, Plan};
+use plan_record::{Plan, Reply};
 
 // How many calls were accepted, and the plan as the last one left it.
 #[repr(C)]
@@ -17,7 +18,7 @@ pub struct FlatEach {
 // number, and any other drop.
 #[tactic(auto, using(crate::proofs::Coding::by_create, crate::proofs::Coding::by_grow, crate::proofs::Coding::by_publish, crate::proofs::Coding::by_drop))]
 fn call(
-    plan: Plan,
+    plan: &mut Plan,
     extents: &mut [u64],
     starts: &mut [u64],
     files: &mut [u64],
@@ -26,8 +27,8 @@ fn call(
     number: u64,
     tag: u32,
     name: &[u8],
-) -> Outcome
-    ensures { Calls code id number tag name.now plan extents.old starts.old files.old extents.new starts.new files.new result }
+) -> Reply
+    ensures { Calls code id number tag name.now plan.old extents.old starts.old files.old extents.new starts.new files.new (left result plan.new) }
 {
     match code {
         0 => plan::create(plan, extents, starts, files, id, tag, name),
@@ -63,11 +64,10 @@ pub extern "C" fn fundravai_plan_call_each(
     let mut plan = Plan::from(flat);
     let mut accepted = 0;
     for (i, &code) in codes.iter().enumerate() {
-        let outcome = call(
-            plan, extents, starts, files, code, ids[i], numbers[i], tag, name,
+        let reply = call(
+            &mut plan, extents, starts, files, code, ids[i], numbers[i], tag, name,
         );
-        plan = outcome.plan;
-        accepted += outcome.reply.is_ok() as u64;
+        accepted += reply.is_ok() as u64;
     }
     FlatEach {
         accepted,
@@ -96,7 +96,7 @@ pub extern "C" fn fundravai_plan_locate_each(
     let plan = Plan::from(flat);
     let mut located = 0;
     for (i, &id) in ids.iter().enumerate() {
-        let told = FlatReply::from(plan::locate(plan, starts, files, id, positions[i], n));
+        let told = FlatReply::from(plan::locate(&plan, starts, files, id, positions[i], n));
         bytes[i] = told.value;
         located += (told.kind == 1) as u64;
     }

@@ -75,7 +75,9 @@ pub extern "C" fn fundravai_plan_create(
 ) -> FlatOutcome
     ensures { FlatCalled (Leaves (plan_from flat) (model.create id tag name.now) extents.old starts.old files.old extents.new starts.new files.new) result }
 {
-    plan::create(flat.into(), extents, starts, files, id, tag, name).into()
+    let mut plan = Plan::from(flat);
+    let reply = plan::create(&mut plan, extents, starts, files, id, tag, name);
+    Outcome { reply, plan }.into()
 }
 
 #[unsafe(no_mangle)]
@@ -88,14 +90,18 @@ pub extern "C" fn fundravai_plan_grow(
 ) -> FlatOutcome
     ensures { FlatCalled (Grows (plan_from flat) (model.grow id) id extents.old starts.old files.old extents.new starts.new files.new) result }
 {
-    plan::grow(flat.into(), extents, starts, files, id).into()
+    let mut plan = Plan::from(flat);
+    let reply = plan::grow(&mut plan, extents, starts, files, id);
+    Outcome { reply, plan }.into()
 }
 
 #[unsafe(no_mangle)]
 pub extern "C" fn fundravai_plan_publish(flat: FlatPlan, id: u64, len: u64) -> FlatOutcome
     ensures { FlatCalled (Changes (plan_from flat) (model.publish id len)) result }
 {
-    plan::publish(flat.into(), id, len).into()
+    let mut plan = Plan::from(flat);
+    let reply = plan::publish(&mut plan, id, len);
+    Outcome { reply, plan }.into()
 }
 
 #[unsafe(no_mangle)]
@@ -108,7 +114,9 @@ pub extern "C" fn fundravai_plan_drop(
 ) -> FlatOutcome
     ensures { FlatCalled (Leaves (plan_from flat) (model.drop id) extents.old starts.old files.old extents.new starts.new files.new) result }
 {
-    plan::drop(flat.into(), extents, starts, files, id).into()
+    let mut plan = Plan::from(flat);
+    let reply = plan::drop(&mut plan, extents, starts, files, id);
+    Outcome { reply, plan }.into()
 }
 
 // The cap is two numbers: whether there is one, and the limit, else 0.
@@ -121,7 +129,9 @@ pub extern "C" fn fundravai_plan_cap(
 ) -> FlatOutcome
     ensures { FlatCalled (Changes (plan_from flat) (model.cap tag (cap_from capped limit))) result }
 {
-    plan::cap(flat.into(), tag, cap_from(capped, limit)).into()
+    let mut plan = Plan::from(flat);
+    let reply = plan::cap(&mut plan, tag, cap_from(capped, limit));
+    Outcome { reply, plan }.into()
 }
 
 #[unsafe(no_mangle)]
@@ -135,5 +145,5 @@ pub extern "C" fn fundravai_plan_locate(
 ) -> FlatReply
     ensures { FlatReplied (Locates (plan_from flat) id pos n starts.now files.now) result }
 {
-    plan::locate(flat.into(), starts, files, id, pos, n).into()
+    plan::locate(&flat.into(), starts, files, id, pos, n).into()
 }

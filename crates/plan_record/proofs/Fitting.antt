@@ -58,7 +58,7 @@ module _ (p : Plan) (xs ss fs : List ℕ) (v : Valid p xs ss fs) where
 
 -- ---- the ranges that are lent to `complement`
 
-module _ (p : Plan) (xs s t : List ℕ) (k : ℕ) (l : Lays s t 0 (laid_all p xs)) (e : k ≡ length (laid_all p xs)) (few : k ≤ 3968) (long : length s ≡ 7936) where
+module _ (p : Plan) (xs s t : List ℕ) (k : ℕ) (l : Lays s t 0 (laid_all p xs)) (e : k ≡ length (laid_all p xs)) (long : 2 * k ≤ length s) where
   pub lent_pairs : pairs (take (2 * k - 0) t) ≡ laid_all p xs
   lent_pairs =
       let d : 2 * k - 0 ≡ 2 * k = omega arith in
@@ -66,7 +66,7 @@ module _ (p : Plan) (xs s t : List ℕ) (k : ℕ) (l : Lays s t 0 (laid_all p xs
       rw (d, pairs_take k t, l.stored, sets-eq (laid_all p xs) (pairs s) 0 (omega arith))
       (take_at (laid_all p xs) (drop (0 + length (laid_all p xs)) (pairs s)) k (sym e))
 
-  module _ (t-long : length t ≡ length s) (gs₀ : List ℕ) (wide : length gs₀ ≡ 7938) where
+  module _ (t-long : length t ≡ length s) (gs₀ : List ℕ) (wide : length s + 2 ≤ length gs₀) where
     pub lent_fine : gaps.complement_fails (take (2 * k - 0) t) gs₀ ≡ false
     unfolding gaps.complement_fails
     lent_fine =

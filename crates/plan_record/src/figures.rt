@@ -19,47 +19,45 @@ fn held_by(regions: &[Region], two: u64) -> u64
 
 impl Plan {
     // Two blocks and the capacity of each region.
-    pub fn held(self) -> u64
-        ensures { HeldTold self result }
+    pub fn held(&self) -> u64
+        ensures { HeldTold self.now result }
     {
         let two = 2 * block_of(self.limits.log2_block);
         held_by(&self.regions[..self.counted()], two)
     }
 
     // What the held bytes leave of the container behind its table.
-    pub fn free(self) -> u64
-        ensures { FreeTold self result }
+    pub fn free(&self) -> u64
+        ensures { FreeTold self.now result }
     {
         let behind = self.limits.file_len.saturating_sub(self.limits.table_end);
         behind.saturating_sub(self.held())
     }
 
     // The published bytes of a tag's regions.
-    pub fn logical(self, tag: u32) -> u64
-        ensures { LogicalTold self tag result }
+    pub fn logical(&self, tag: u32) -> u64
+        ensures { LogicalTold self.now tag result }
     {
-        let accounts = self.accounts;
-        accounts.row(tag).logical
+        self.accounts.row(tag).logical
     }
 
     // The bytes of a tag's footprints.
-    pub fn physical(self, tag: u32) -> u64
-        ensures { PhysicalTold self tag result }
+    pub fn physical(&self, tag: u32) -> u64
+        ensures { PhysicalTold self.now tag result }
     {
-        let accounts = self.accounts;
-        accounts.row(tag).physical
+        self.accounts.row(tag).physical
     }
 
     // The last sequence number.
-    pub fn last_number(self) -> u64
-        ensures { LastTold self result }
+    pub fn last_number(&self) -> u64
+        ensures { LastTold self.now result }
     {
         self.last
     }
 
     // How many regions there are.
-    pub fn region_count(self) -> usize
-        ensures { CountTold self result }
+    pub fn region_count(&self) -> usize
+        ensures { CountTold self.now result }
     {
         self.counted()
     }

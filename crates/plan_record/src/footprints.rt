@@ -1,7 +1,7 @@
 // The footprints of the regions, one behind the other, as pairs of a lent list.
-ghost use Rattle.std.specs.Prelude.{◌≡◌, ◌+◌, ◌≤◌, min, length};
+ghost use Rattle.std.specs.Prelude.{◌≡◌, ◌+◌, ◌*◌, ◌≤◌, min, length};
 ghost use Rattle.numbers.specs.Pairs.{pairs};
-ghost use Rattle.plan_record.specs.Plan.{places};
+ghost use Rattle.plan_record.specs.Plan.{places, regions_of};
 ghost use Rattle.plan_record.specs.Inner.{laid, Lays, laid_all, region_extents};
 
 use crate::{Plan, Region};
@@ -73,9 +73,9 @@ fn lay(region: Region, block: u64, rows: Rows<'_>, out: &mut [u64], at: usize) -
 
 impl Plan {
     // Writes the footprints of all regions into the pairs of out; answers how many ranges there are.
-    pub(crate) fn lay_footprints(self, rows: Rows<'_>, out: &mut [u64]) -> usize
-        ensures lays { Lays out.old out.new 0 (laid_all self rows.entry.extents.now) }
-        ensures value { (result ≡ length (laid_all self rows.entry.extents.now)) × (result ≤ 3968) }
+    pub(crate) fn lay_footprints(&self, rows: Rows<'_>, out: &mut [u64]) -> usize
+        ensures lays { Lays out.old out.new 0 (laid_all self.now rows.entry.extents.now) }
+        ensures value { (result ≡ length (laid_all self.now rows.entry.extents.now)) × (result ≤ 62 * length (regions_of self.now)) }
     {
         let n = self.counted();
         let block = block_of(self.limits.log2_block);

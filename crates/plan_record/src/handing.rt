@@ -77,8 +77,8 @@ fn record_of(region: Region, n: u16) -> Record
 
 impl Plan {
     // The region at place i, with its extents in out; a blank record past the last.
-    pub fn region(self, i: usize, extents: &[u64], out: &mut [u64]) -> Result<Record, Refusal>
-        ensures { Hands self i extents.now out.old out.new result }
+    pub fn region(&self, i: usize, extents: &[u64], out: &mut [u64]) -> Result<Record, Refusal>
+        ensures { Hands self.now i extents.now out.old out.new result }
     {
         if extents.len() < 7680 {
             return Err(Refusal::Lists);

@@ -7,7 +7,7 @@ mod handing;
 pub mod names;
 pub mod room;
 
-ghost use Rattle.std.specs.Prelude.{◌≡◌, ◌≤◌, length};
+ghost use Rattle.std.specs.Prelude.{IfSome, ◌≡◌, ◌<◌, ◌≤◌, length};
 ghost use Rattle.plan_record.specs.Plan.{regions_of, place_in, blank_region, blank_plan};
 
 use accounting::Accounting;
@@ -120,15 +120,17 @@ impl Plan {
     }
 
     // How many regions a loop goes over: on a record that no call handed back the count may pass 64.
-    pub fn counted(self) -> usize
-        ensures { (result ≡ length (regions_of self)) × (result ≤ 64) }
+    pub fn counted(&self) -> usize
+        ensures { (result ≡ length (regions_of self.now)) × (result ≤ 64) }
     {
         self.count.min(64)
     }
 
-    // The place of the region with the number.
-    pub fn find(self, id: u64) -> Option<usize>
-        ensures { result ≡ place_in self id }
+    // The place of the region with the number. Callers that are lent a plan learn here how long its array is.
+    pub fn find(&self, id: u64) -> Option<usize>
+        ensures place { result ≡ place_in self.now id }
+        ensures below { IfSome result (λ i. i < 64) }
+        ensures full { length self.now.regions ≡ 64 }
     {
         self.regions
             .iter()

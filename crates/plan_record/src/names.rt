@@ -56,8 +56,8 @@ fn any_named(regions: &[Region], name: &[u8]) -> bool
 
 impl Plan {
     // Whether a region has the name.
-    pub fn named(self, name: &[u8]) -> bool
-        ensures { Named self name.now result }
+    pub fn named(&self, name: &[u8]) -> bool
+        ensures { Named self.now name.now result }
     {
         if name.len() > 24 {
             return false;

@@ -86,13 +86,13 @@ module _ (w₀ : World) (s₀ : Sound w₀) (cs : List Call) (ns : List (Answer 
                   ∙ ap (λ (n : ℕ). accepted (Some n)) z.1 ∙ sym (found l id p r b x),
             );
         forgets = demand.forgets;
-        held_is = λ r x. x.told h.extents h.starts h.files g.valid ∙ ap held g.world;
-        free_is = λ r x. x.told h.extents h.starts h.files g.valid ∙ ap free g.world;
-        figures = λ r t x y.
+        held_is = λ l r x. x.told h.extents h.starts h.files g.valid ∙ ap held g.world;
+        free_is = λ l r x. x.told h.extents h.starts h.files g.valid ∙ ap free g.world;
+        figures = λ l m r t x y.
             ap (λ (n : ℕ). n + t) (x.told h.extents h.starts h.files g.valid ∙ ap held g.world)
             ∙ ap (λ (n : ℕ). held w + n) (y.told h.extents h.starts h.files g.valid ∙ ap free g.world) ∙ demand.figures;
-        physical_is = λ tag r x. x.told h.extents h.starts h.files g.valid ∙ ap (λ (u : World). physical u tag) g.world;
-        logical_is = λ tag r x. x.told h.extents h.starts h.files g.valid ∙ ap (λ (u : World). logical u tag) g.world;
+        physical_is = λ l tag r x. x.told h.extents h.starts h.files g.valid ∙ ap (λ (u : World). physical u tag) g.world;
+        logical_is = λ l tag r x. x.told h.extents h.starts h.files g.valid ∙ ap (λ (u : World). logical u tag) g.world;
         rooms = subst (Rooms w₀ cs) (sym g.answers) (rooms_along w₀ s₀ cs);
       }
 

@@ -7,6 +7,7 @@ use Rattle.model.specs.Calls.{Call, locate, next, world_after, answers_along, ac
 use Rattle.model.specs.World.{World}
 use Rattle.numbers.specs.Refusals.{Answer}
 use Rattle.plan.specs.Calls.{Called, Leaves, Locates as Located}
+use Rattle.plan.specs.Calls.{left}
 use Rattle.plan_record.specs.Plan.{Valid, world_of, reply_of, Reply}
 use Rattle.plan_record.specs.declared.Outcome.{Outcome}
 use Rattle.position.specs.Runs.{Whole, with_plan, Run, ends, creates, grows, publishes, drops, caps, locates}
@@ -25,10 +26,10 @@ pub record Ran (w : World) (cs : List Call) (ns : List (Answer (Option ℕ))) (k
   pub answers : ns ≡ answers_along w cs
 
 -- one call, and the others from what it left
-pub went : (h j : Whole) {k : Whole} {c : Call} {cs : List Call} {ns : List (Answer (Option ℕ))} {r : Outcome}
-    → Called h.plan c h.extents h.starts h.files j.extents j.starts j.files r
-    → (v : ValidIn h) → (ValidIn (with_plan j r.plan) → Ran (world_in (with_plan j r.plan)) cs ns k)
-    → Ran (world_in h) (c ∷ cs) (reply_of r.reply ∷ ns) k
+pub went : (h j : Whole) {k : Whole} {c : Call} {cs : List Call} {ns : List (Answer (Option ℕ))} {r : Reply}
+    → Called h.plan c h.extents h.starts h.files j.extents j.starts j.files (left r j.plan)
+    → (v : ValidIn h) → (ValidIn j → Ran (world_in j) cs ns k)
+    → Ran (world_in h) (c ∷ cs) (reply_of r ∷ ns) k
 unfolding world_after answers_along
 went h j a v f =
     let g = f (a.valid v) in
@@ -36,10 +37,10 @@ went h j a v f =
     record { valid = g.valid; world = g.world ∙ rw e; answers = rw (a.answer v, g.answers, e) }
 
 -- a call that leaves the lists
-pub left : (h j : Whole) {c : Call} {r : Outcome}
+pub kept : (h j : Whole) {c : Call} {r : Outcome}
     → Leaves h.plan c h.extents h.starts h.files j.extents j.starts j.files r
     → Called h.plan c h.extents h.starts h.files j.extents j.starts j.files r
-left h j a = rw (a.extents, a.starts, a.files) a.called
+kept h j a = rw (a.extents, a.starts, a.files) a.called
 
 -- a locate leaves the plan
 pub stood : (h : Whole) {k : Whole} {id pos n : ℕ} {cs : List Call} {ns : List (Answer (Option ℕ))} {r : Reply}
@@ -54,9 +55,9 @@ stood h {k} {id} {pos} {n} a v g =
 pub ran : {h k : Whole} {cs : List Call} {ns : List (Answer (Option ℕ))} → ValidIn h → Run h cs ns k → Ran (world_in h) cs ns k
 unfolding world_after answers_along
 ran v ends = record { valid = v; world = refl; answers = refl }
-ran {h} v (creates l id tag name r j a t) = went h j (left h j a) v (λ u. ran u t)
+ran {h} v (creates l id tag name r j a t) = went h j (kept h j a) v (λ u. ran u t)
 ran {h} v (grows l id r j a t) = went h j a.called v (λ u. ran u t)
-ran {h} v (publishes id len r a t) = went h h (a.called h.extents h.starts h.files) v (λ u. ran u t)
-ran {h} v (drops l id r j a t) = went h j (left h j a) v (λ u. ran u t)
-ran {h} v (caps tag limit r a t) = went h h (a.called h.extents h.starts h.files) v (λ u. ran u t)
+ran {h} v (publishes l id len r p a t) = went h (with_plan h p) (a.called h.extents h.starts h.files) v (λ u. ran u t)
+ran {h} v (drops l id r j a t) = went h j (kept h j a) v (λ u. ran u t)
+ran {h} v (caps l tag limit r p a t) = went h (with_plan h p) (a.called h.extents h.starts h.files) v (λ u. ran u t)
 ran {h} v (locates l id pos n r a t) = stood h a v (ran v t)

@@ -70,12 +70,12 @@ pub record After (w₀ : World) (cs : List Call) (ns : List (Answer (Option ℕ)
   -- a dropped number is unknown, so that one created again is another region
   pub forgets : (id : ℕ) → known (next w (drop id)) id ≡ false
   -- 4. "held + free = length - table end": the plan's held is the sum of footprints, its free that of the gaps
-  pub held_is : (r : ℕ) → HeldTold h r → r ≡ held w
-  pub free_is : (r : ℕ) → FreeTold h r → r ≡ free w
-  pub figures : (r s : ℕ) → HeldTold h r → FreeTold h s → r + s ≡ w.limits.file_len - w.limits.table_end
+  pub held_is : (l : Loan) (r : ℕ) → HeldTold l h r → r ≡ held w
+  pub free_is : (l : Loan) (r : ℕ) → FreeTold l h r → r ≡ free w
+  pub figures : (l m : Loan) (r s : ℕ) → HeldTold l h r → FreeTold m h s → r + s ≡ w.limits.file_len - w.limits.table_end
   -- 5. "tag totals", of every tag, one without a row included: "physical totals count footprints, logical ones published lengths"
-  pub physical_is : (tag r : ℕ) → PhysicalTold h tag r → r ≡ physical w tag
-  pub logical_is : (tag r : ℕ) → LogicalTold h tag r → r ≡ logical w tag
+  pub physical_is : (l : Loan) (tag r : ℕ) → PhysicalTold l h tag r → r ≡ physical w tag
+  pub logical_is : (l : Loan) (tag r : ℕ) → LogicalTold l h tag r → r ≡ logical w tag
   -- 6. "a create or grow that passes every earlier check is refused for room exactly when no span is free", just before it
   pub rooms : Rooms w₀ cs ns
 

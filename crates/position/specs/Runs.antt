@@ -35,21 +35,22 @@ pub record Whole : Type 0 where
 
 -- ---- what a caller learns of one call
 
--- How a list was lent to a call: for how long, where it stands and under which ghost name. No contract speaks of these.
+-- How the record or a list was lent to a call: for how long, where it stands and under which ghost name. No contract speaks of these.
 pub record Loan : Type 0 where
   pub lifetime : Lft
   pub ptr : ℕ × ℕ
   pub name : GName
 
--- The references that are passed, with what the list holds: one to write by, and one to read by alone, which has no ghost name.
-abbrev pub show : {A : Type 0} → Loan → List A → Bor (List A)
-show l xs = record { ref_ptr = l.ptr; now = xs }
+-- The references that are passed, with what stands there: one to write by, and one to read by alone, which has no ghost name.
+abbrev pub show : {A : Type 0} → Loan → A → Bor A
+show l x = record { ref_ptr = l.ptr; now = x }
 
-abbrev pub lend : Loan → List ℕ → MutBor (List ℕ)
-lend l xs = record { ref_ptr = l.ptr; ghost_name = l.name; now = xs }
+abbrev pub lend : {A : Type 0} → Loan → A → MutBor A
+lend l x = record { ref_ptr = l.ptr; ghost_name = l.name; now = x }
 
--- The loans of a call: of the three lists of the plan, and of a name.
+-- The loans of a call: of the plan's record and its three lists, and of a name.
 pub record Loans : Type 0 where
+  pub plan : Loan
   pub extents : Loan
   pub starts : Loan
   pub files : Loan
@@ -79,57 +80,59 @@ OpensWith l q a b o s h r t k =
 abbrev pub opening_with : Arguments → List ℕ → Whole → Opening
 opening_with o s h = opening_of o.limits o.records o.listed s h.extents h.starts h.files
 
--- `plan::create(plan, extents, starts, files, id, tag, name)` was called with h and answered r, and left the lists as they are in k.
-abbrev pub Creates : Loans → Whole → (id tag : ℕ) → List ℕ → Outcome → Whole → Type 0
+-- `plan::create(plan, extents, starts, files, id, tag, name)` was called with h and answered r, and left record and lists as they are in k.
+abbrev pub Creates : Loans → Whole → (id tag : ℕ) → List ℕ → Reply → Whole → Type 0
 Creates l h id tag name r k =
-    create_reads.Learnt (l.extents.lifetime, (l.starts.lifetime, (l.files.lifetime, (l.name.lifetime, tt))))
-    (h.plan, (lend l.extents h.extents, (lend l.starts h.starts, (lend l.files h.files, (id, (tag, (show l.name name, tt)))))))
+    create_reads.Learnt (l.plan.lifetime, (l.extents.lifetime, (l.starts.lifetime, (l.files.lifetime, (l.name.lifetime, tt)))))
+    (lend l.plan h.plan, (lend l.extents h.extents, (lend l.starts h.starts, (lend l.files h.files, (id, (tag, (show l.name name, tt)))))))
     r
-    (h.plan, (lend l.extents k.extents, (lend l.starts k.starts, (lend l.files k.files, (id, (tag, (show l.name name, tt)))))))
+    (lend l.plan k.plan, (lend l.extents k.extents, (lend l.starts k.starts, (lend l.files k.files, (id, (tag, (show l.name name, tt)))))))
 
 -- `plan::grow(plan, extents, starts, files, id)`
-abbrev pub Grows : Loans → Whole → ℕ → Outcome → Whole → Type 0
+abbrev pub Grows : Loans → Whole → ℕ → Reply → Whole → Type 0
 Grows l h id r k =
-    grow_reads.Learnt (l.extents.lifetime, (l.starts.lifetime, (l.files.lifetime, tt)))
-    (h.plan, (lend l.extents h.extents, (lend l.starts h.starts, (lend l.files h.files, (id, tt)))))
+    grow_reads.Learnt (l.plan.lifetime, (l.extents.lifetime, (l.starts.lifetime, (l.files.lifetime, tt))))
+    (lend l.plan h.plan, (lend l.extents h.extents, (lend l.starts h.starts, (lend l.files h.files, (id, tt)))))
     r
-    (h.plan, (lend l.extents k.extents, (lend l.starts k.starts, (lend l.files k.files, (id, tt)))))
+    (lend l.plan k.plan, (lend l.extents k.extents, (lend l.starts k.starts, (lend l.files k.files, (id, tt)))))
 
 -- `plan::drop(plan, extents, starts, files, id)`
-abbrev pub Drops : Loans → Whole → ℕ → Outcome → Whole → Type 0
+abbrev pub Drops : Loans → Whole → ℕ → Reply → Whole → Type 0
 Drops l h id r k =
-    drop_reads.Learnt (l.extents.lifetime, (l.starts.lifetime, (l.files.lifetime, tt)))
-    (h.plan, (lend l.extents h.extents, (lend l.starts h.starts, (lend l.files h.files, (id, tt)))))
+    drop_reads.Learnt (l.plan.lifetime, (l.extents.lifetime, (l.starts.lifetime, (l.files.lifetime, tt))))
+    (lend l.plan h.plan, (lend l.extents h.extents, (lend l.starts h.starts, (lend l.files h.files, (id, tt)))))
     r
-    (h.plan, (lend l.extents k.extents, (lend l.starts k.starts, (lend l.files k.files, (id, tt)))))
+    (lend l.plan k.plan, (lend l.extents k.extents, (lend l.starts k.starts, (lend l.files k.files, (id, tt)))))
 
--- `plan::publish(plan, id, len)` and `plan::cap(plan, tag, limit)` take no lists.
-abbrev pub Publishes : Whole → (id len : ℕ) → Outcome → Type 0
-Publishes h id len r = publish_reads.Learnt tt (h.plan, (id, (len, tt))) r (h.plan, (id, (len, tt)))
+-- `plan::publish(plan, id, len)` and `plan::cap(plan, tag, limit)` take no lists; p is the record that they leave.
+abbrev pub Publishes : Loans → Whole → (id len : ℕ) → Reply → Plan → Type 0
+Publishes l h id len r p =
+    publish_reads.Learnt (l.plan.lifetime, tt) (lend l.plan h.plan, (id, (len, tt))) r (lend l.plan p, (id, (len, tt)))
 
-abbrev pub Caps : Whole → ℕ → Option ℕ → Outcome → Type 0
-Caps h tag limit r = cap_reads.Learnt tt (h.plan, (tag, (limit, tt))) r (h.plan, (tag, (limit, tt)))
+abbrev pub Caps : Loans → Whole → ℕ → Option ℕ → Reply → Plan → Type 0
+Caps l h tag limit r p =
+    cap_reads.Learnt (l.plan.lifetime, tt) (lend l.plan h.plan, (tag, (limit, tt))) r (lend l.plan p, (tag, (limit, tt)))
 
--- `plan::locate(plan, starts, files, id, pos, n)`
+-- `plan::locate(plan, starts, files, id, pos, n)` reads.
 abbrev pub Locates : Loans → Whole → (id pos n : ℕ) → Reply → Type 0
 Locates l h id pos n r =
-    locate_reads.Learnt (l.starts.lifetime, (l.files.lifetime, tt))
-    (h.plan, (show l.starts h.starts, (show l.files h.files, (id, (pos, (n, tt))))))
+    locate_reads.Learnt (l.plan.lifetime, (l.starts.lifetime, (l.files.lifetime, tt)))
+    (show l.plan h.plan, (show l.starts h.starts, (show l.files h.files, (id, (pos, (n, tt))))))
     r
-    (h.plan, (show l.starts h.starts, (show l.files h.files, (id, (pos, (n, tt))))))
+    (show l.plan h.plan, (show l.starts h.starts, (show l.files h.files, (id, (pos, (n, tt))))))
 
--- The figures: `held(plan)`, `free(plan)`, `physical(plan, tag)` and `logical(plan, tag)`.
-abbrev pub HeldTold : Whole → ℕ → Type 0
-HeldTold h r = held_reads.Learnt tt (h.plan, tt) r (h.plan, tt)
+-- The figures read the record: `held(plan)`, `free(plan)`, `physical(plan, tag)` and `logical(plan, tag)`.
+abbrev pub HeldTold : Loan → Whole → ℕ → Type 0
+HeldTold l h r = held_reads.Learnt (l.lifetime, tt) (show l h.plan, tt) r (show l h.plan, tt)
 
-abbrev pub FreeTold : Whole → ℕ → Type 0
-FreeTold h r = free_reads.Learnt tt (h.plan, tt) r (h.plan, tt)
+abbrev pub FreeTold : Loan → Whole → ℕ → Type 0
+FreeTold l h r = free_reads.Learnt (l.lifetime, tt) (show l h.plan, tt) r (show l h.plan, tt)
 
-abbrev pub PhysicalTold : Whole → (tag r : ℕ) → Type 0
-PhysicalTold h tag r = physical_reads.Learnt tt (h.plan, (tag, tt)) r (h.plan, (tag, tt))
+abbrev pub PhysicalTold : Loan → Whole → (tag r : ℕ) → Type 0
+PhysicalTold l h tag r = physical_reads.Learnt (l.lifetime, tt) (show l h.plan, (tag, tt)) r (show l h.plan, (tag, tt))
 
-abbrev pub LogicalTold : Whole → (tag r : ℕ) → Type 0
-LogicalTold h tag r = logical_reads.Learnt tt (h.plan, (tag, tt)) r (h.plan, (tag, tt))
+abbrev pub LogicalTold : Loan → Whole → (tag r : ℕ) → Type 0
+LogicalTold l h tag r = logical_reads.Learnt (l.lifetime, tt) (show l h.plan, (tag, tt)) r (show l h.plan, (tag, tt))
 
 -- ---- lists of calls
 
@@ -141,30 +144,30 @@ with_plan h p = record { plan = p; extents = h.extents; starts = h.starts; files
 pub data Run : Whole → List Call → List (Answer (Option ℕ)) → Whole → Type 0 where
   ends : {h : Whole} → Run h [] [] h
   creates :
-      {h k : Whole} {cs : List Call} {ns : List (Answer (Option ℕ))} (l : Loans) (id tag : ℕ) (name : List ℕ) (r : Outcome) (j : Whole) →
+      {h k : Whole} {cs : List Call} {ns : List (Answer (Option ℕ))} (l : Loans) (id tag : ℕ) (name : List ℕ) (r : Reply) (j : Whole) →
       Creates l h id tag name r j →
-      Run (with_plan j r.plan) cs ns k →
-      Run h (create id tag name ∷ cs) (reply_of r.reply ∷ ns) k
+      Run j cs ns k →
+      Run h (create id tag name ∷ cs) (reply_of r ∷ ns) k
   grows :
-      {h k : Whole} {cs : List Call} {ns : List (Answer (Option ℕ))} (l : Loans) (id : ℕ) (r : Outcome) (j : Whole) →
+      {h k : Whole} {cs : List Call} {ns : List (Answer (Option ℕ))} (l : Loans) (id : ℕ) (r : Reply) (j : Whole) →
       Grows l h id r j →
-      Run (with_plan j r.plan) cs ns k →
-      Run h (grow id ∷ cs) (reply_of r.reply ∷ ns) k
+      Run j cs ns k →
+      Run h (grow id ∷ cs) (reply_of r ∷ ns) k
   publishes :
-      {h k : Whole} {cs : List Call} {ns : List (Answer (Option ℕ))} (id len : ℕ) (r : Outcome) →
-      Publishes h id len r →
-      Run (with_plan h r.plan) cs ns k →
-      Run h (publish id len ∷ cs) (reply_of r.reply ∷ ns) k
+      {h k : Whole} {cs : List Call} {ns : List (Answer (Option ℕ))} (l : Loans) (id len : ℕ) (r : Reply) (p : Plan) →
+      Publishes l h id len r p →
+      Run (with_plan h p) cs ns k →
+      Run h (publish id len ∷ cs) (reply_of r ∷ ns) k
   drops :
-      {h k : Whole} {cs : List Call} {ns : List (Answer (Option ℕ))} (l : Loans) (id : ℕ) (r : Outcome) (j : Whole) →
+      {h k : Whole} {cs : List Call} {ns : List (Answer (Option ℕ))} (l : Loans) (id : ℕ) (r : Reply) (j : Whole) →
       Drops l h id r j →
-      Run (with_plan j r.plan) cs ns k →
-      Run h (drop id ∷ cs) (reply_of r.reply ∷ ns) k
+      Run j cs ns k →
+      Run h (drop id ∷ cs) (reply_of r ∷ ns) k
   caps :
-      {h k : Whole} {cs : List Call} {ns : List (Answer (Option ℕ))} (tag : ℕ) (limit : Option ℕ) (r : Outcome) →
-      Caps h tag limit r →
-      Run (with_plan h r.plan) cs ns k →
-      Run h (cap tag limit ∷ cs) (reply_of r.reply ∷ ns) k
+      {h k : Whole} {cs : List Call} {ns : List (Answer (Option ℕ))} (l : Loans) (tag : ℕ) (limit : Option ℕ) (r : Reply) (p : Plan) →
+      Caps l h tag limit r p →
+      Run (with_plan h p) cs ns k →
+      Run h (cap tag limit ∷ cs) (reply_of r ∷ ns) k
   locates :
       {h k : Whole} {cs : List Call} {ns : List (Answer (Option ℕ))} (l : Loans) (id pos n : ℕ) (r : Reply) →
       Locates l h id pos n r →

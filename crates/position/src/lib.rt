@@ -36,22 +36,14 @@ pub fn drive(
 ) -> Driven
     ensures { Drives (opening_from opening.entry scratch.old extents.old starts.old files.old) id tag name.now len pos extents.new result }
 {
-    let a = open(opening, scratch, extents, starts, files);
-    let opened = a.reply;
-    let first = a.plan;
-    let b = create(first, extents, starts, files, id, tag, name);
-    let created = b.reply;
-    let second = b.plan;
-    let c = grow(second, extents, starts, files, id);
-    let grown = c.reply;
-    let third = c.plan;
-    let d = publish(third, id, len);
-    let published = d.reply;
-    let fourth = d.plan;
-    let located = locate(fourth, starts, files, id, pos, 1);
-    let e = drop(fourth, extents, starts, files, id);
-    let dropped = e.reply;
-    let plan = e.plan;
+    let outcome = open(opening, scratch, extents, starts, files);
+    let opened = outcome.reply;
+    let mut plan = outcome.plan;
+    let created = create(&mut plan, extents, starts, files, id, tag, name);
+    let grown = grow(&mut plan, extents, starts, files, id);
+    let published = publish(&mut plan, id, len);
+    let located = locate(&plan, starts, files, id, pos, 1);
+    let dropped = drop(&mut plan, extents, starts, files, id);
     Driven {
         opened,
         created,

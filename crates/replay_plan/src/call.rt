@@ -2,7 +2,7 @@
 // tag whose totals are asked, how many numbers of each list are lent, and a name; then what is seen.
 use crate::figures;
 use crate::state::{Kind, State};
-use plan_record::{Outcome, Plan};
+use plan_record::{Plan, Reply};
 use sample::words::{at, converted, front, list, past, past_list, whole};
 
 #[derive(Clone, Copy)]
@@ -81,25 +81,24 @@ pub(crate) fn replay(state: &mut State, kind: Kind, numbers: &[u64]) -> bool {
     let Some(call) = read(kind, numbers) else {
         return false;
     };
-    let outcome = answered(
-        state.plan,
+    let reply = answered(
+        &mut state.plan,
         call.step,
         front(&mut state.extents, call.extents),
         front(&mut state.starts, call.starts),
         front(&mut state.files, call.files),
     );
-    state.plan = outcome.plan;
-    figures::alike(outcome.plan, outcome.reply, call.asked, call.due)
+    figures::alike(&state.plan, reply, call.asked, call.due)
 }
 
 // What ours answers; the lists are lent as the call says.
 fn answered(
-    plan: Plan,
+    plan: &mut Plan,
     step: Step,
     extents: &mut [u64],
     starts: &mut [u64],
     files: &mut [u64],
-) -> Outcome {
+) -> Reply {
     match step {
         Step::Create { id, tag, name } => {
             let mut room = [0u8; 64];
@@ -110,9 +109,6 @@ fn answered(
         Step::Publish { id, len } => plan::publish(plan, id, len),
         Step::Drop { id } => plan::drop(plan, extents, starts, files, id),
         Step::Cap { tag, limit } => plan::cap(plan, tag, limit),
-        Step::Locate { id, pos, n } => {
-            let reply = plan::locate(plan, starts, files, id, pos, n);
-            Outcome { reply, plan }
-        }
+        Step::Locate { id, pos, n } => plan::locate(plan, starts, files, id, pos, n),
     }
 }

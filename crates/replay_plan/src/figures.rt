@@ -3,7 +3,7 @@
 use flat_plan::FlatReply;
 use plan_record::{Plan, Reply};
 
-pub(crate) fn alike(plan: Plan, reply: Reply, tag: u32, due: &[u64]) -> bool {
+pub(crate) fn alike(plan: &Plan, reply: Reply, tag: u32, due: &[u64]) -> bool {
     let told = FlatReply::from(reply);
     let numbers = [
         u64::from(told.kind),

@@ -6,7 +6,7 @@ use plan_record::Record;
 use sample::words::{at, first, has, nth_list, past, past_lists, same, whole};
 
 pub(crate) fn alike(state: &State, numbers: &[u64]) -> bool {
-    let plan = state.plan;
+    let plan = &state.plan;
     let due = past(numbers, 1);
     let mut out = [7u64; 120];
     // Of a number that no region has, what stands past the last region is handed out.

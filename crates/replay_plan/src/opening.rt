@@ -72,7 +72,7 @@ pub(crate) fn replay(state: &mut State, numbers: &[u64]) -> bool {
     if outcome.reply.is_ok() {
         state.plan = outcome.plan;
     }
-    figures::alike(state.plan, outcome.reply, case.asked, case.due)
+    figures::alike(&state.plan, outcome.reply, case.asked, case.due)
 }
 
 fn scratch_room() -> [u64; 8192] {

@@ -1,6 +1,7 @@
 pub mod Laws
 mod Places
 mod Passes
+mod Parting
 mod Partition
 mod Insertion
 mod Heaps

@@ -7,4 +7,4 @@ returns-then-lists_short c = (leaves_short _ _ _ _ _ (short_is _ _ _ ∙ sym c.l
 
 pub returns : goal.returns
 returns c =
-    (leaves_long (short_is _ _ _ ∙ sym c.lists_short.ensures ∙ c.if-lists_short.false) (c.created-reply.ensures c.args.starts.now c.args.files.now))
+    (leaves_long (short_is _ _ _ ∙ sym c.lists_short.ensures ∙ c.if-lists_short.false) (c.created.ensures c.args.starts.now c.args.files.now))

@@ -20,12 +20,12 @@ returns-in_err-at c ss fs =
     let e : c.from_residual-in_err-at.result ≡ Err NoRoom = search rules in
     rw e (create_no_room c.args.plan.now _ ss fs _ _ _ c.in_ok-create_test.ensures _ c.block_of-two.ensures.0 _ c.in_ok-place.ensures (ap Ok c.in_err-at.ensures.ok_part))
 
-pub returns-in_err-posted : goal.returns-in_err-posted
-returns-in_err-posted c ss fs =
-    let e : c.from_residual-in_err-posted.result ≡ Err c.in_err-posted.field-0.0 = search rules in
-    rw e
+pub returns-in_err-count_usage : goal.returns-in_err-count_usage
+returns-in_err-count_usage c ss fs =
+    let e : c.from_residual-in_err-count_usage.result ≡ Err c.in_err-count_usage.field-0.0 = search rules in
+    rw (e, c.count_usage.ensures.refused _ c.in_err-count_usage.was)
     (create_never c.args.plan.now _ ss fs _ _ _ c.in_ok-create_test.ensures _ c.block_of-two.ensures.0 _ c.in_ok-place.ensures _
-    (ap Ok c.in_ok-at.ensures.ok_part) _ c.add_usage-posted.ensures _ c.in_err-posted.was)
+    (ap Ok c.in_ok-at.ensures.ok_part) _ c.count_usage.ensures _ c.in_err-count_usage.was)
 
 pub add_region-requires : goal.add_region-requires
 add_region-requires c =
@@ -34,4 +34,4 @@ add_region-requires c =
 pub returns : goal.returns
 returns c ss fs =
     create_done c.args.plan.now _ ss fs _ _ _ c.in_ok-create_test.ensures _ c.block_of-two.ensures.0 _ c.in_ok-place.ensures _
-    (ap Ok c.in_ok-at.ensures.ok_part) _ c.add_usage-posted.ensures _ c.add_region.ensures
+    (ap Ok c.in_ok-at.ensures.ok_part) _ c.count_usage.ensures _ c.add_region.ensures

@@ -1,9 +1,9 @@
-use Prim.Native.Nat.{◌/◌, ◌≤◌}
-use mathlib.Core.Path.{◌≡◌, ap, sym, refl, ◌∙◌}
+use Prim.Native.Nat.{ℕ, ◌/◌, ◌≤◌, ◌<◌}
+use mathlib.Core.Path.{◌≡◌, ap, sym, refl, subst, ◌∙◌}
 use native.Mathlib.Omega.{arith}
 use lib.ListN.{length}
 use borrow.Author.Rules.{rules}
-use Rattle.std.specs.Prelude.{Err, Ok, Some}
+use Rattle.std.specs.Prelude.{IfSome, Option, Err, Ok, Some}
 use Rattle.numbers.specs.declared.refusal.Refusal.TheVariants.{Unknown, NoRoom}
 use Rattle.plan_record.specs.Plan.{place_in, places}
 use Rattle.plan_record.proofs.Places.{found_is}
@@ -13,7 +13,7 @@ use Rattle.plan.proofs.grown.Goals as goal
 use Rattle.plan.proofs.grown.Goals.{Start, In_ok-i}
 
 found : (c : In_ok-i) → place_in c.args.plan.now c.args.id ≡ Some c.in_ok-i.i
-found c = sym c.seek.ensures.place ∙ c.in_ok-i.ensures.ok_part
+found c = sym c.find.ensures.place ∙ c.in_ok-i.ensures.ok_part
 
 long : (c : Start) → (places ≤ length c.args.starts.now) × (places ≤ length c.args.files.now) × (3840 ≤ length c.args.extents.now / 2)
 long c = long_enough c.args.extents.now c.args.starts.now c.args.files.now c.requires
@@ -21,11 +21,11 @@ long c = long_enough c.args.extents.now c.args.starts.now c.args.files.now c.req
 pub returns-in_err-i : goal.returns-in_err-i
 returns-in_err-i c =
     let e : c.from_residual.result ≡ Err Unknown = search rules in
-    rw e (grows_refused _ _ _ _ _ c.requires (grow_unknown c.args.plan.now _ _ _ _ (sym c.seek.ensures.place ∙ c.in_err-i.ensures.ok_part)))
+    rw e (grows_refused _ _ _ _ _ c.requires (grow_unknown c.args.plan.now _ _ _ _ (sym c.find.ensures.place ∙ c.in_err-i.ensures.ok_part)))
 
 pub grow_test-requires : goal.grow_test-requires
 grow_test-requires c =
-    ((found_is c.args.plan.now _ _ (found (goal.at.grow_test-requires c).In_ok-i)).1, len-at c.args.plan.now c.in_ok-i.i c.step_at.ensures.0 c.block_of.ensures.0)
+    (subst (λ (o : Option ℕ). IfSome o (λ i. i < 64)) c.in_ok-i.ensures.ok_part c.find.ensures.below, (found_is c.args.plan.now _ _ (found (goal.at.grow_test-requires c).In_ok-i)).1, len-at c.args.plan.now c.in_ok-i.i c.step_at.ensures.0 c.block_of.ensures.0)
 
 pub returns-in_err-grow_test : goal.returns-in_err-grow_test
 returns-in_err-grow_test c =
@@ -48,14 +48,14 @@ returns-in_err-at c =
     (grow_no_room c.args.plan.now _ _ _ _ _ (found (goal.at.returns-in_err-at c).In_ok-i) c.in_ok-grow_test.ensures _
     (len-at c.args.plan.now c.in_ok-i.i c.step_at.ensures.0 c.block_of.ensures.0) _ c.in_ok-place.ensures (ap Ok c.in_err-at.ensures.ok_part)))
 
-pub returns-in_err-posted : goal.returns-in_err-posted
-returns-in_err-posted c =
-    let e : c.from_residual-in_err-posted.result ≡ Err c.in_err-posted.field-0.0 = search rules in
+pub returns-in_err-count_usage : goal.returns-in_err-count_usage
+returns-in_err-count_usage c =
+    let e : c.from_residual-in_err-count_usage.result ≡ Err c.in_err-count_usage.field-0.0 = search rules in
     rw e
     (grows_refused _ _ _ _ _ c.requires
-    (grow_never c.args.plan.now _ _ _ _ _ (found (goal.at.returns-in_err-posted c).In_ok-i) c.in_ok-grow_test.ensures _
+    (grow_never c.args.plan.now _ _ _ _ _ (found (goal.at.returns-in_err-count_usage c).In_ok-i) c.in_ok-grow_test.ensures _
     (len-at c.args.plan.now c.in_ok-i.i c.step_at.ensures.0 c.block_of.ensures.0) _ c.in_ok-place.ensures _ (ap Ok c.in_ok-at.ensures.ok_part) _
-    c.add_usage-posted.ensures _ c.in_err-posted.was))
+    c.count_usage.ensures _ c.in_err-count_usage.was))
 
 pub slice_bounds-extend-end : goal.slice_bounds-extend-end
 slice_bounds-extend-end c =
@@ -71,7 +71,7 @@ returns-in_err-next c =
     rw e
     (grow_stuck c.args.plan.now _ _ _ _ _ (found (goal.at.returns-in_err-next c).In_ok-i) c.in_ok-grow_test.ensures _
     (len-at c.args.plan.now c.in_ok-i.i c.step_at.ensures.0 c.block_of.ensures.0) _ c.in_ok-place.ensures _ (ap Ok c.in_ok-at.ensures.ok_part) _
-    c.add_usage-posted.ensures _ c.own_row-a.ensures (long (goal.at.returns-in_err-next c).Start).0 (long (goal.at.returns-in_err-next c).Start).1 _ _
+    c.count_usage.ensures _ c.own_row-a.ensures (long (goal.at.returns-in_err-next c).Start).0 (long (goal.at.returns-in_err-next c).Start).1 _ _
     _ c.extend.ensures _ c.in_err-next.was c.requires)
 
 pub returns : goal.returns
@@ -79,5 +79,5 @@ returns c =
     rw c.stretch.ensures
     (grow_done c.args.plan.now _ _ _ _ _ (found (goal.at.returns c).In_ok-i) c.in_ok-grow_test.ensures _
     (len-at c.args.plan.now c.in_ok-i.i c.step_at.ensures.0 c.block_of.ensures.0) _ c.in_ok-place.ensures _ (ap Ok c.in_ok-at.ensures.ok_part) _
-    c.add_usage-posted.ensures _ c.own_row-a.ensures (long (goal.at.returns c).Start).0 (long (goal.at.returns c).Start).1 _ _ _ c.extend.ensures _
-    c.in_ok-next.was _ _ refl c.put_pair.ensures c.seek.ensures.full c.requires)
+    c.count_usage.ensures _ c.own_row-a.ensures (long (goal.at.returns c).Start).0 (long (goal.at.returns c).Start).1 _ _ _ c.extend.ensures _
+    c.in_ok-next.was _ _ refl c.put_pair.ensures c.find.ensures.full c.requires)

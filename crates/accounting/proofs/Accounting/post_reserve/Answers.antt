@@ -1,8 +1,7 @@
 -- `accounting::Accounting::post_reserve` meets its contract: the posting, and the total where it is accepted.
 use Rattle.std.proofs.Common.{rules, ℕ, refl, sym, ◌∙◌, ◌≡◌, ◌+◌}
 use Rattle.tagspace.specs.Row.{reserve}
-use Rattle.accounting.specs.Inner.{leaving}
-use Rattle.accounting.specs.Table.{Posts, on_row, reserving}
+use Rattle.accounting.specs.Table.{Posts, leaving, on_row, reserving}
 use Rattle.numbers.specs.Sums.{stop}
 use Rattle.numbers.proofs.Answers.{no_error}
 use Rattle.accounting.proofs.Handing.{total_kept, total_posted}

@@ -1,8 +1,7 @@
 -- `accounting::Accounting::post_unreserve` meets its contract: the posting, and the total where it is accepted.
 use Rattle.std.proofs.Common.{rules, ℕ, refl, sym, ◌∙◌, ◌≡◌, ◌-◌}
 use Rattle.tagspace.specs.Row.{unreserve}
-use Rattle.accounting.specs.Inner.{leaving}
-use Rattle.accounting.specs.Table.{Posts, on_row, unreserving}
+use Rattle.accounting.specs.Table.{Posts, leaving, on_row, unreserving}
 use Rattle.numbers.proofs.Answers.{no_error}
 use Rattle.accounting.proofs.Handing.{total_kept, total_posted}
 use Rattle.accounting.proofs.Accounting.post_unreserve.Goals as goal

@@ -2,8 +2,8 @@
 use Rattle.std.proofs.Common.{rules, ◌≡◌, ◌-◌, refl, sym, ◌∙◌, subst, List, arith}
 use Rattle.tagspace.specs.Row.{add_usage}
 use Rattle.accounting.specs.Entries.{Usage}
-use Rattle.accounting.specs.Inner.{gathered, leaving}
-use Rattle.accounting.specs.Table.{Posts, on_row}
+use Rattle.accounting.specs.Inner.{gathered}
+use Rattle.accounting.specs.Table.{Posts, leaving, on_row}
 use Rattle.accounting.proofs.Counting.{Counting, counts_begin, counts_on, counts_refused, counts_end}
 use Rattle.accounting.proofs.Counting.{gathered_some, gathered_none, gathered_end}
 use Rattle.accounting.proofs.entries.count_all.Given.{Over}

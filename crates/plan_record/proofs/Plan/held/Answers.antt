@@ -8,4 +8,4 @@ pub overflow_mul-two : goal.overflow_mul-two
 overflow_mul-two c = omega (arith, c.block_of-two.ensures.1)
 
 pub returns : goal.returns
-returns c = held_told c.args.self _ _ _ (ap (λ (n : ℕ). 2 * n) c.block_of-two.ensures.0) c.counted.ensures.0 c.held_by.ensures
+returns c = held_told c.args.self.now _ _ _ (ap (λ (n : ℕ). 2 * n) c.block_of-two.ensures.0) c.counted.ensures.0 c.held_by.ensures

@@ -9,7 +9,7 @@ loop-region-init c = all_begins
 
 pub lay-at-requires : goal.lay-at-requires
 lay-at-requires c =
-    let l : length (take c.counted-n.result c.args.self.regions) ≤ 64 = simp length-take (omega (arith, c.counted-n.ensures.1)) in
+    let l : length (take c.counted-n.result c.args.self.now.regions) ≤ 64 = simp length-take (omega (arith, c.counted-n.ensures.1)) in
     omega (arith, l, c.loop-region.invariant.few)
 
 pub loop-region-preserved : goal.loop-region-preserved
@@ -24,6 +24,6 @@ returns c =
     let n = c.counted-n.ensures in
     let g = c.loop-region.invariant in
     record {
-      lays = all_ends c.args.self n.0 g c.block_of-block.ensures.0 (omega arith);
-      value = (all_length c.args.self n.0 g c.block_of-block.ensures.0 (omega arith), omega (arith, g.few, g.below, n.1, length-take c.counted-n.result c.args.self.regions));
+      lays = all_ends c.args.self.now n.0 g c.block_of-block.ensures.0 (omega arith);
+      value = (all_length c.args.self.now n.0 g c.block_of-block.ensures.0 (omega arith), omega (arith, g.few, g.below, n.0, length-take c.counted-n.result c.args.self.now.regions, length-take c.args.self.now.count c.args.self.now.regions));
     }

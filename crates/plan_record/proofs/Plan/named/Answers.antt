@@ -6,4 +6,4 @@ pub returns-then-name-gt24 : goal.returns-then-name-gt24
 returns-then-name-gt24 c = record { told = λ l. absurd (omega arith) }
 
 pub returns : goal.returns
-returns c = named_told c.args.self _ _ _ c.counted.ensures.0 c.any_named.ensures
+returns c = named_told c.args.self.now _ _ _ c.counted.ensures.0 c.any_named.ensures

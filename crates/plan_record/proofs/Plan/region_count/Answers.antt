@@ -5,4 +5,4 @@ use Rattle.plan_record.proofs.Plan.region_count.Goals as goal
 
 pub returns : goal.returns
 unfolding world_of
-returns c = record { told = λ xs. c.counted.ensures.0 ∙ sym (length-map (regions_of c.args.self) (region_of xs)) }
+returns c = record { told = λ xs. c.counted.ensures.0 ∙ sym (length-map (regions_of c.args.self.now) (region_of xs)) }
