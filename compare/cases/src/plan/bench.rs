@@ -277,19 +277,28 @@ fn regions(n: usize, random: &mut Random) {
     });
 }
 
-/// A copy of a plan as flat numbers; ours by value is some 6 parts in 100 longer. `locate` makes two of
-/// them, a call that hands the plan back 6 to 9.
+/// A copy of the accounts as flat numbers: `grow` makes two, no other call copies so much. By the border a
+/// plan is copied, too.
 fn copied() {
-    let plan = vec![7u8; size_of::<ours::plan::Plan>()];
-    let mut to = plan.clone();
+    for (whose, bytes) in [
+        ("accounts", size_of::<ours::accounts::Accounts>()),
+        ("a plan", size_of::<ours::plan::Plan>()),
+    ] {
+        copy(whose, bytes);
+    }
+}
+
+fn copy(whose: &str, bytes: usize) {
+    let from = vec![7u8; bytes];
+    let mut to = from.clone();
     let all = |_: &mut ()| {
         for _ in 0..1000 {
-            to.copy_from_slice(black_box(&plan));
+            to.copy_from_slice(black_box(&from));
             black_box(&mut to);
         }
     };
     let time = median(11, || (), all) / 1000.0;
-    let of = format!("a copy of {} bytes", plan.len());
+    let of = format!("a copy of {whose}, {bytes} bytes");
     println!("{of:<44} {:>14} {:>14} {time:>14.1}", "", "");
 }
 
