@@ -57,9 +57,9 @@ count_from : (n : ℕ) (xs : List ℕ) → unwrap_or (position_from (λ b. not (
 unfolding digit_count
 count_from n [] = refl
 count_from n (x ∷ xs) =
-    cases (not (is_digit x))
-    (λ t. simp t (omega arith))
-    (λ f. let h = count_from (n + 1) xs in let e : n + suc (length xs) ≡ n + 1 + length xs = omega arith in simp (f, e) (h ∙ omega arith))
+    cases (is_digit x)
+    (λ t. let h = count_from (n + 1) xs in let e : n + suc (length xs) ≡ n + 1 + length xs = omega arith in simp (t, e) (h ∙ omega arith))
+    (λ f. simp f (omega arith))
 
 pub count_is : (xs : List ℕ) → unwrap_or (position (λ b. not (is_digit b)) xs) (length xs) ≡ digit_count xs
 count_is xs = rw (position_from-zero (λ b. not (is_digit b)) xs) (simp zero-add at (count_from 0 xs))

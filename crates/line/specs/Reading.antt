@@ -1,6 +1,6 @@
 -- A line read from its front: each part is what is read, and the bytes behind it. What is read is what document 01's grammar says
 -- (proofs/Grammar).
-use Rattle.std.specs.Prelude.{ℕ, ◌+◌, ◌-◌, ◌*◌, ◌^◌, Bool, cond, not, ◌&&◌, ◌||◌, List, [], ◌∷◌, eqb, leb, ltb, length, take, drop, get_or, Option, None, Some, codes}
+use Rattle.std.specs.Prelude.{ℕ, suc, ◌+◌, ◌-◌, ◌*◌, ◌^◌, Bool, cond, not, ◌&&◌, ◌||◌, List, [], ◌∷◌, eqb, leb, ltb, length, take, drop, get_or, Option, None, Some, codes}
 use Rattle.std.specs.Option.{option_or}
 use Rattle.line.specs.Command.{Command, opening, calling}
 use Rattle.model.specs.Calls as model
@@ -22,7 +22,7 @@ is_digit b = leb 48 b && leb b 57
 -- How many digits stand in front.
 unfoldable pub digit_count : List ℕ → ℕ
 digit_count [] = 0
-digit_count (b ∷ bs) = cond (not (is_digit b)) 0 (1 + digit_count bs)
+digit_count (b ∷ bs) = cond (is_digit b) (suc (digit_count bs)) 0
 
 -- The number that digits say, behind those of v.
 unfoldable pub value_from : ℕ → List ℕ → ℕ

@@ -1,5 +1,5 @@
 -- Tests in order: the first that fails gives its number; extents tested one by one.
-use Rattle.numbers.specs.declared.refusal.Refusal.TheVariants.{Lists, Block, Length, Entry, NumbersDiffer, KindsDiffer, FlagsDiffer, NotReady, HeaderCount, NoMultiple, Outside, ExtentSum, Overlaps, NumberHeld, Marked, Unknown, SlotGrows, NameHeld, Full, LastNumber, OverCap, NoRoom, Past, Crosses}
+use Rattle.numbers.specs.declared.refusal.Refusal.TheVariants.{Lists, Block, Length, Entry, NumbersDiffer, KindsDiffer, FlagsDiffer, NotReady, HeaderCount, NoMultiple, Outside, ExtentSum, Overlaps, NumberHeld, Marked, Unknown, SlotGrows, NameHeld, Full, LastNumber, OverCap, NoRoom, Past, Crosses, Malformed}
 use Rattle.numbers.specs.declared.refusal.Refusal.{Refusal}
 use Rattle.std.proofs.Common.{lit<}
 use Prim.Native.Nat.{ℕ, zero, suc, ◌+◌, ◌≤◌, ◌<◌}
@@ -233,3 +233,4 @@ reason_above OverCap = lit< tt
 reason_above NoRoom = lit< tt
 reason_above Past = lit< tt
 reason_above Crosses = lit< tt
+reason_above Malformed = lit< tt

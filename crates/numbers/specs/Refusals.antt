@@ -26,6 +26,7 @@ use Rattle.numbers.specs.declared.refusal.Refusal.TheVariants.{
   NoRoom,
   Past,
   Crosses,
+  Malformed,
 }
 use Rattle.numbers.specs.Range.{Range}
 use Rattle.numbers.specs.Sums.{top}
@@ -94,6 +95,7 @@ refusal_number OverCap = 21
 refusal_number NoRoom = 22
 refusal_number Past = 23
 refusal_number Crosses = 24
+refusal_number Malformed = 25
 
 -- What a result says: its value, or the reason's number.
 abbrev pub told : {A : Type 0} → Result A Refusal → Answer A

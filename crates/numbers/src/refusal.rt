@@ -2,8 +2,7 @@
 ghost use Rattle.std.specs.Prelude.{◌≡◌};
 ghost use Rattle.numbers.specs.Refusals.{refusal_number, refusal_in};
 
-// A reason, each with document 01's number. That of a malformed line, 25, comes with the program that
-// reads lines.
+// A reason, each with document 01's number.
 #[derive(Clone, Copy, Debug, PartialEq, Eq)]
 pub enum Refusal {
     // A list is too short, or a count over its limit.
@@ -47,6 +46,8 @@ pub enum Refusal {
     Past = 23,
     // Across a run's end.
     Crosses = 24,
+    // A program's line is malformed, comes before an accepted open or opens after one.
+    Malformed = 25,
 }
 
 impl Refusal {

@@ -1,0 +1,3 @@
+pub mod Lines
+pub mod Program
+pub mod Session
