@@ -1,10 +1,10 @@
 -- The program's state: the plan with its lists, and the world that they mean.
-use Rattle.std.specs.Prelude.{ℕ, true, cond, List, ◌≡◌, length, Option, None, Some}
+use Rattle.std.specs.Prelude.{ℕ, ◌*◌, true, cond, List, ◌≡◌, length, Option, None, Some}
 use Rattle.line.specs.Command.{Command}
 use Rattle.line.specs.Meaning.{line_of}
 use Rattle.line.specs.Reading.{command_in}
 use Rattle.line.specs.declared.answer.Answer.{Answer}
-use Rattle.listing.specs.Program.{answer_in, after, line_for}
+use Rattle.listing.specs.Program.{answer_in, after, held_in, free_in, line_for}
 use Rattle.listing.specs.declared.session.Session.{Session}
 use Rattle.model.specs.World.{World}
 use Rattle.plan_record.specs.Plan.{Valid, world_of, places, reply_of, Reply}
@@ -30,6 +30,11 @@ pub record Asks (s : Session) (c : Option Command) (t : Session) (r : Reply) : T
   pub ready : Ready s → Ready t
   pub told : Ready s → reply_of r ≡ answer_in (world_in s) c
   pub world : Ready s → world_in t ≡ after (world_in s) c
+
+-- What the figures are.
+pub record Figures (s : Session) (h f : ℕ) : Type 0 where
+  pub held : Ready s → h ≡ held_in (world_in s)
+  pub free : Ready s → f ≡ free_in (world_in s)
 
 -- What a line promises.
 pub record Answers (s : Session) (line : List ℕ) (t : Session) (r : Answer) : Type 0 where
