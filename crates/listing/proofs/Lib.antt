@@ -1,2 +1,4 @@
 pub mod Opened
 pub mod Asked
+pub mod Keeping
+pub mod Cutting

@@ -1,3 +1,4 @@
 pub mod Lines
 pub mod Program
 pub mod Session
+pub mod Feeding
