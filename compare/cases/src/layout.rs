@@ -146,8 +146,8 @@ pub fn sample(random: &mut Random) -> String {
     text
 }
 
-/// Logs of 4,096 cases in a row, where a call over the border would cost more than the work. The Rust's
-/// figures stand in evidence of its own, made before.
+/// Logs of 4,096 cases in a row, where a call over the border takes as long as the work. The Rust's figures
+/// stand in evidence of its own, made before.
 pub fn bench(random: &mut Random) {
     let n = 4096;
     let cases: Vec<[u32; 6]> = (0..n)

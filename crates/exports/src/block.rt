@@ -30,7 +30,7 @@ pub extern "C" fn fundravai_choose_log2_block(
     choose_log2_block(evidence, requested.then_some(request))
 }
 
-// For the benchmark, where a call from Rust would cost more than the work: the sum of the logs that each six
+// For the benchmark, where a call from Rust takes as long as the work: the sum of the logs that each six
 // numbers give, five figures and a request.
 #[unsafe(no_mangle)]
 pub extern "C" fn fundravai_choose_log2_block_each(cases: &[u32]) -> u64

@@ -1,7 +1,6 @@
--- `log_at_or_above n` is the log of the least power of two at or above n; and how leading zeros give it.
+-- The need is the largest, `log_at_or_above n` is the log of the least power of two at or above n; and how leading zeros give it.
 use Prim.Native.Nat.{ℕ, zero, suc, ◌+◌, ◌-◌, ◌*◌, ◌^◌, ◌≤◌, ◌<◌}
-use mathlib.Core.Bool.{true, false}
-use mathlib.Core.Path.{◌≡◌, refl, ap, sym, ◌∙◌}
+use mathlib.Core.Path.{◌≡◌}
 use native.Mathlib.Nat.{pow-suc, le_antisymm}
 use native.Mathlib.Omega.{arith}
 use lib.Count.{count_leading_zeros, leading_length}
@@ -12,6 +11,23 @@ use Rattle.std.proofs.lemmas.List.Elements.{All-cons, All-head, All-tail}
 use Rattle.layout.specs.declared.Evidence.{Evidence}
 use Rattle.layout.specs.Layout.{log_from, log_at_or_above, need_of, choose_log2_block}
 use Rattle.numbers.proofs.Cases.{by_lt}
+
+-- "the largest": it is at most what all are at most
+pub largest : (a b : ℕ) (xs : List ℕ) → fold max a xs ≤ b ↔ All (λ x. x ≤ b) (a ∷ xs)
+largest a b [] = (λ h. All-cons (λ x. x ≤ b) a [] h (λ k d p. absurd (omega arith)), λ h. All-head (λ x. x ≤ b) a [] h)
+largest a b (x ∷ xs) =
+    let P : ℕ → Type 0 = λ x. x ≤ b in
+    let r = largest (max a x) b xs in (
+      λ h.
+          let t = r.0 h in
+          let m = All-head P (max a x) xs t in
+          All-cons P a (x ∷ xs) (omega arith) (All-cons P x xs (omega arith) (All-tail P (max a x) xs t)),
+      λ h.
+          let t = All-tail P a (x ∷ xs) h in
+          let m = All-head P a (x ∷ xs) h in
+          let n = All-head P x xs t in
+          r.1 (All-cons P (max a x) xs (omega arith) (All-tail P x xs t)),
+    )
 
 -- 2^k is at or above n, and no lower power of two is
 pub record Least (n k : ℕ) : Type 0 where
@@ -40,7 +56,7 @@ log_least n = least_from 0 n n (λ j h. omega arith) (λ j h. let b = below_powe
 pub least_log : (n k : ℕ) → Least n k → k ≡ log_at_or_above n
 least_log n k l = let h = log_least n in le_antisymm (l.least _ h.above) (h.least k l.above)
 
--- the digits of n - 1, the width less the zeros in front, are as many
+-- the width less the zeros in front, how many digits n - 1 has, is that log
 pub leading_log : (w n : ℕ) → 0 < n → n - 1 < 2 ^ w → w - count_leading_zeros w (n - 1) ≡ log_at_or_above n
 leading_log w n pos fits =
     let t = leading_length w (n - 1) fits in
@@ -68,13 +84,3 @@ above_2_31 e requested h =
     let l = log_least n in
     let a : n ≤ 2 ^ k = l.above in
     by_lt 31 k (λ p. omega arith) (λ p. let m : 2 ^ k ≤ 2 ^ 31 = pow_mono p in absurd (omega arith))
-
--- "the largest": it is at most what all are at most
-pub largest : (a b : ℕ) (xs : List ℕ) → fold max a xs ≤ b ↔ All (λ x. x ≤ b) (a ∷ xs)
-largest a b [] = (λ h. All-cons (λ x. x ≤ b) a [] h (λ k d p. absurd (omega arith)), λ h. All-head (λ x. x ≤ b) a [] h)
-largest a b (x ∷ xs) =
-    let P : ℕ → Type 0 = λ x. x ≤ b in
-    let r = largest (max a x) b xs in (
-      λ h. let t = r.0 h in let m = All-head P (max a x) xs t in All-cons P a (x ∷ xs) (omega arith) (All-cons P x xs (omega arith) (All-tail P (max a x) xs t)),
-      λ h. let t = All-tail P a (x ∷ xs) h in let m = All-head P a (x ∷ xs) h in let n = All-head P x xs t in r.1 (All-cons P (max a x) xs (omega arith) (All-tail P x xs t)),
-    )

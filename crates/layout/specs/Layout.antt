@@ -1,5 +1,5 @@
 -- Document 01, layout.rs: `choose_log2_block`.
-use Rattle.std.specs.Prelude.{ℕ, zero, suc, ◌^◌, max, min, cond, leb, List, [], ◌∷◌, fold, Option, unwrap_or}
+use Rattle.std.specs.Prelude.{ℕ, zero, suc, ◌^◌, max, min, cond, leb, [], ◌∷◌, fold, Option, unwrap_or}
 use Rattle.layout.specs.declared.Evidence.{Evidence}
 
 -- "the largest of 4,096, the five device figures and the request"; no request counts as 0

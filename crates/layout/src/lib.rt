@@ -27,6 +27,7 @@ pub fn choose_log2_block(evidence: Evidence, requested: Option<u32>) -> u8
         .max(evidence.dio_mem_align)
         .max(evidence.dio_offset_align)
         .max(requested.unwrap_or(0));
+    // how many digits need - 1 has; above 2^31 these are 32
     let log = 32 - (need - 1).leading_zeros();
     log.clamp(12, 16) as u8
 }
