@@ -1,7 +1,7 @@
 # Sourced by run, bench and sample: finds what the comparison needs, builds both sides.
 here=$(cd "$(dirname "${BASH_SOURCE[0]}")" && pwd)
 root=$(dirname "$here")
-modules="align sort footprint regionmap settle freemap accounting plan"
+modules="align sort footprint regionmap settle freemap accounting plan layout"
 
 lacking() {
   echo "$1"

@@ -5,6 +5,7 @@ pub mod align;
 pub mod flat;
 pub mod footprint;
 pub mod freemap;
+pub mod layout;
 pub mod lent;
 pub mod plan;
 pub mod random;

@@ -26,6 +26,17 @@ pub mod footprint;
 
 pub mod header;
 
+#[rustfmt::skip]
+#[path = "../../../../shared/docs/src/crates/store-io-core/src/evidence.rs"]
+pub mod evidence;
+
+#[rustfmt::skip]
+#[allow(dead_code)]
+#[path = "../../../../shared/docs/src/crates/store-io-engine/src/layout.rs"]
+mod layout;
+
+pub mod block;
+
 /// The atomics that the engine's files use.
 mod sync {
     pub use std::sync::atomic::{AtomicU64, Ordering};
@@ -48,8 +59,8 @@ pub mod settle;
 
 #[allow(dead_code)]
 mod standins;
-pub use standins::{Platform, error};
-use standins::{io, options, region, store};
+pub use standins::{Platform, class, error};
+use standins::{io, options, region, slot, store};
 
 // declares the module `space`: build.rs says how it is built
 include!(concat!(env!("OUT_DIR"), "/modules.rs"));

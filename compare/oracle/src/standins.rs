@@ -1,6 +1,27 @@
-//! Small stand-ins for what space.rs names of the project's other crates and files. `Accounting` uses
-//! none of them; `Store` and `Reservation` stand around it in the same file. A store here holds
-//! accounts and an empty container, and can do nothing else.
+//! Small stand-ins for what the engine's files name of the project's other crates and files: space.rs,
+//! where `Accounting` uses none of them and `Store` and `Reservation` stand around it (a store here holds
+//! accounts and an empty container, and can do nothing else), and layout.rs with evidence.rs, where
+//! `choose_log2_block` uses none.
+
+/// `store_io_core::class`.
+pub mod class {
+    /// What could not be read: here nothing is noted.
+    #[derive(Debug, Clone, PartialEq, Eq)]
+    pub struct MissingSet;
+
+    impl MissingSet {
+        pub fn new() -> Self {
+            Self
+        }
+    }
+}
+
+/// `store_io_format::slot`.
+pub mod slot {
+    pub const HEADER_LEN: usize = 128;
+    pub const FORMAT_1: u16 = 1;
+    pub const FORMAT_2: u16 = 2;
+}
 
 /// `store_io_core::error`.
 pub mod error {

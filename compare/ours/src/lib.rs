@@ -2,6 +2,7 @@
 //! so each has a safe form.
 
 pub mod accounts;
+pub mod block;
 pub mod free;
 pub mod map;
 pub mod plan;

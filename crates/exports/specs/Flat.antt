@@ -1,5 +1,5 @@
 -- Answers as flat numbers, and records from them.
-use Rattle.std.specs.Prelude.{ℕ, Bool, cond, List, [], ◌≡◌, eqb, length, get_or, Option, None, Some, Result}
+use Rattle.std.specs.Prelude.{ℕ, Bool, true, false, cond, List, [], ◌≡◌, eqb, length, get_or, Option, None, Some, Result}
 use Rattle.exports.specs.declared.FlatAnswer.{FlatAnswer}
 use Rattle.exports.specs.declared.FlatOption.{FlatOption}
 use Rattle.flat.specs.Flat.{kind_of}
@@ -8,6 +8,8 @@ use Rattle.footprint.specs.declared.Entry.{Entry}
 use Rattle.footprint.specs.declared.Header.{Header}
 use Rattle.footprint.specs.declared.Limits.{Limits}
 use Rattle.freemap.specs.declared.FreeMap.{FreeMap}
+use Rattle.layout.specs.Layout.{choose_log2_block}
+use Rattle.layout.specs.declared.Evidence.{Evidence}
 use Rattle.numbers.specs.Range.{Range}
 use Rattle.numbers.specs.Pairs.{flat}
 use Rattle.numbers.specs.Refusals.{Answer, accepted, refused, number_of, value_or, told, refusal_in}
@@ -106,3 +108,15 @@ free_from n t = record { count = n; tail = t }
 pub record FlatFit (p : Answer (Option ℕ)) (refusal : ℕ) (r : FlatOption) : Type 0 where
   pub number : refusal ≡ number_of p
   pub place : r ≡ flat_of (value_or None p)
+
+abbrev pub evidence_of : ℕ → ℕ → ℕ → ℕ → ℕ → Evidence
+evidence_of l p o m d = record { logical_block = l; physical_block = p; optimal_write = o; dio_mem_align = m; dio_offset_align = d }
+
+-- A request by whether there is one, and its number.
+abbrev pub request_of : Bool → ℕ → Option ℕ
+request_of true n = Some n
+request_of false n = None
+
+-- The log of six numbers in a list, the figures and a request.
+abbrev pub log_in : List ℕ → ℕ
+log_in c = choose_log2_block (evidence_of (get_or c 0 0) (get_or c 1 0) (get_or c 2 0) (get_or c 3 0) (get_or c 4 0)) (Some (get_or c 5 0))

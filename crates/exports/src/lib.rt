@@ -3,6 +3,7 @@
 #![tactic(auto)]
 
 mod accounts;
+mod block;
 mod free;
 mod map;
 mod settlement;

@@ -70,7 +70,7 @@ fn header_of(call: &[u64]) -> Option<Header> {
 }
 
 // std makes no bool of a number.
-fn flag_of(number: u64) -> Option<bool> {
+pub(crate) fn flag_of(number: u64) -> Option<bool> {
     match number {
         0 => Some(false),
         1 => Some(true),

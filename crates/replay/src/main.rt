@@ -1,10 +1,11 @@
-// Replays stored answers of the Rust, each by itself: align_up, sort_pairs, the region check, runs and
-// settlement. Standard input holds cases, each as many numbers as it says, the first of them its module's
-// (compare/sample writes it).
+// Replays stored answers of the Rust, each by itself: align_up, sort_pairs, the region check, runs,
+// the block log and settlement. Standard input holds cases, each as many numbers as it says, the first of
+// them its module's (compare/sample writes it).
 #![tactic(auto)]
 
 mod aligned;
 mod checked;
+mod chosen;
 mod joined;
 mod settled;
 mod sorted;
@@ -18,6 +19,7 @@ fn main(rt: HostRuntime) {
         ("sort", 2),
         ("checks", 3),
         ("runs", 4),
+        ("layout", 5),
         ("settle", 6),
         ("of no module", 0),
     ];
@@ -41,6 +43,7 @@ enum Module {
     Sort,
     Checks,
     Runs,
+    Layout,
     Settle,
 }
 
@@ -53,6 +56,7 @@ impl TryFrom<u64> for Module {
             2 => Ok(Module::Sort),
             3 => Ok(Module::Checks),
             4 => Ok(Module::Runs),
+            5 => Ok(Module::Layout),
             6 => Ok(Module::Settle),
             _ => Err(()),
         }
@@ -67,6 +71,7 @@ impl Module {
             Module::Sort => sorted::alike(call),
             Module::Checks => checked::alike(call),
             Module::Runs => joined::alike(call),
+            Module::Layout => chosen::alike(call),
             Module::Settle => settled::alike(call),
         }
     }

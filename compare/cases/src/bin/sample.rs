@@ -2,7 +2,7 @@
 //! 'calls' that of replay_calls. With the argument 'plan' it is the model's, that of replay_plan.
 
 use cases::random::{Random, SEED};
-use cases::{accounting, align, footprint, freemap, plan, regionmap, settle, sort, stored};
+use cases::{accounting, align, footprint, freemap, layout, plan, regionmap, settle, sort, stored};
 
 const HEAD: &str = ", a case a line. Made by compare/sample.
 -- How many numbers the case has: its module's number; what is asked = what is answered. A list is its length and its numbers, and one at the end its numbers.
@@ -11,11 +11,12 @@ const HEAD: &str = ", a case a line. Made by compare/sample.
 type Sample = fn(&mut Random) -> String;
 
 fn main() {
-    let single: [Sample; 4] = [
+    let single: [Sample; 5] = [
         align::sample,
         sort::sample,
         footprint::sample,
         settle::sample,
+        layout::sample,
     ];
     let calls: [Sample; 3] = [regionmap::sample, freemap::sample, accounting::sample];
     let plan: [Sample; 1] = [plan::sample];
