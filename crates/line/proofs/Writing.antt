@@ -1,5 +1,5 @@
 -- How long the text of an answer is.
-use Rattle.std.proofs.Common.{◌≡◌, ℕ, ◌-◌, ◌^◌, ◌≤◌, ◌<◌, List, length, take, drop, arith, length-take, length-drop, length-set, drop-cons, drop_of_length-le, suc, set, ◌∙◌, le-leb, ◌+◌, append_assoc, ◌++◌, ◌∷◌, [], codes}
+use Rattle.std.proofs.Common.{◌≡◌, ℕ, ◌-◌, ◌^◌, ◌≤◌, ◌<◌, List, length, take, drop, arith, length-take, length-drop, length-set, length-append, drop-cons, drop_of_length-le, suc, set, ◌∙◌, le-leb, ◌+◌, append_assoc, ◌++◌, ◌∷◌, [], codes}
 use Rattle.std.proofs.lemmas.Fmt.{length-decimal-le}
 use borrow.Author.Tests.{lt-leb}
 use lib.Seq.{drop-drop}
@@ -41,3 +41,13 @@ pub last_stored : (s : List ℕ) (i v : ℕ) → length s ≡ suc i → drop i (
 last_stored s i v e =
     let n : length (set s i v) ≡ suc i = length-set s i v ∙ e in
     drop-cons (set s i v) i 0 (omega (arith, n)) ∙ simp (get_or-set_same s i v 0 (omega (arith, e)), drop_of_length-le (set s i v) {i = suc i} (omega (arith, n)))
+
+-- No answer is longer.
+pub answer_short : (r a h f : ℕ) → r < 2 ^ 64 → a < 2 ^ 64 → h < 2 ^ 64 → f < 2 ^ 64 → length (answer_text (line r a h f)) ≤ 105
+unfolding answer_text
+answer_short r a h f i j k l =
+    let r' = few_digits r i in
+    let a' = few_digits a j in
+    let h' = few_digits h k in
+    let f' = few_digits f l in
+    simp length-append (omega (arith, r', a', h', f'))

@@ -58,7 +58,8 @@ impl Answer {
 
     // Writes the text to out from at on, where there is room for it; answers where it ends.
     pub fn put(self, out: &mut [u8], at: usize) -> usize
-        ensures { Put at (answer_text (line_of self)) out.old out.new result }
+        ensures puts { Put at (answer_text (line_of self)) out.old out.new result }
+        ensures short { length (answer_text (line_of self)) ≤ 105 }
     {
         let mut text = [0u8; 105];
         let start = self.spell(&mut text);

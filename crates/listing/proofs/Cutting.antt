@@ -1,12 +1,15 @@
 -- How an input falls into lines: in one block or in several, and what is kept of a line that is too long.
-use Rattle.std.proofs.Common.{◌≡◌, ℕ, ◌+◌, ◌-◌, ◌≤◌, ◌<◌, min, Bool, true, false, cond, List, [], ◌∷◌, ◌++◌, length, take, drop, refl, sym, ap, ◌∙◌, arith, append_assoc, append-nil, length-append, length-take, eqb, Option, None, Some, map}
+use Rattle.std.proofs.Common.{◌≡◌, ℕ, ◌+◌, ◌-◌, ◌≤◌, ◌<◌, min, Bool, true, false, cond, List, [], ◌∷◌, ◌++◌, length, take, drop, refl, sym, ap, ◌∙◌, arith, append_assoc, append-nil, length-append, length-take, eqb, Option, None, Some, map, subst}
 use borrow.Author.Tests.{lt-leb, eqb-true}
+use Rattle.std.specs.List.{position, position_from}
+use Rattle.std.proofs.lemmas.Iterator.Adapters.{position_from-zero}
 use lib.Seq.{length-take-le, take-append-le}
 use Rattle.line.proofs.Parts.{beyond}
 use Rattle.listing.proofs.Keeping.{front}
 use Rattle.std.proofs.lemmas.List.{take_all}
 use Rattle.line.specs.Answer.{answer_text}
 use Rattle.line.specs.Reading.{command_in}
+use Rattle.listing.specs.Feeding.{kept}
 use Rattle.listing.specs.Lines.{ended, begun}
 use Rattle.listing.specs.Program.{line_for, after, texts, after_lines}
 use Rattle.model.specs.World.{World}
@@ -31,6 +34,45 @@ begun_append c (b ∷ x) y =
 
 abbrev pub Inside : ℕ → Type 0
 Inside b = eqb b 10 ≡ false
+
+-- Where a search for the first line end has stopped.
+pub record EndAt (xs : List ℕ) (n i : ℕ) : Type 0 where
+  pub before : List ℕ
+  pub behind : List ℕ
+  pub whole : xs ≡ before ++ (10 ∷ behind)
+  pub inside : All Inside before
+  pub at : i ≡ n + length before
+
+abbrev pub Found : List ℕ → ℕ → Option ℕ → Type 0
+Found xs n None = All Inside xs
+Found xs n (Some i) = EndAt xs n i
+
+pub found_from : (n : ℕ) (xs : List ℕ) → Found xs n (position_from (λ b. eqb b 10) n xs)
+found_from n [] = tt
+found_from n (x ∷ xs) =
+    cases (eqb x 10)
+    (λ t. simp t (record { before = []; behind = xs; whole = rw (eqb-true _ _ t) refl; inside = tt; at = omega arith }))
+    (λ f. simp f (further f (position_from (λ b. eqb b 10) (n + 1) xs) (found_from (n + 1) xs)))
+  where
+    further : eqb x 10 ≡ false → (o : Option ℕ) → Found xs (n + 1) o → Found (x ∷ xs) n o
+    further f None h = (f, h)
+    further f (Some i) e = record { before = x ∷ e.before; behind = e.behind; whole = ap (λ l. x ∷ l) e.whole; inside = (f, e.inside); at = let a = e.at in omega (arith, a) }
+
+pub found : (xs : List ℕ) (o : Option ℕ) → o ≡ position (λ b. eqb b 10) xs → Found xs 0 o
+found xs o e = subst (Found xs 0) (sym (e ∙ position_from-zero (λ b. eqb b 10) xs)) (found_from 0 xs)
+
+-- The first n bytes, and one more.
+module _ {xs : List ℕ} {i : ℕ} (e : EndAt xs 0 i) where
+  pub line_taken : take i xs ≡ e.before
+  line_taken = ap (take i) e.whole ∙ front i e.before (10 ∷ e.behind) (let a = e.at in omega (arith, a))
+
+  pub end_taken : take (i + 1) xs ≡ e.before ++ (10 ∷ [])
+  end_taken =
+      ap (take (i + 1)) (e.whole ∙ sym (append_assoc e.before (10 ∷ []) e.behind))
+      ∙ front (i + 1) (e.before ++ (10 ∷ [])) e.behind (let a = e.at in let b = length-append e.before (10 ∷ []) in omega (arith, a, b))
+
+  pub end_inside : i < length xs
+  end_inside = let a = e.at in let b = ap length e.whole in let c = length-append e.before (10 ∷ e.behind) in omega (arith, a, b, c)
 
 pub ended_none : (c x : List ℕ) → All Inside x → ended c x ≡ []
 unfolding ended
@@ -76,10 +118,7 @@ module _ (n : ℕ) where
       (λ h. front n (take n c) y (sym (length-take-le n c (omega (arith, h)))) ∙ sym (take-append-le n c y (omega (arith, h))))
       (λ h. rw (take_all n c h) refl)
 
-abbrev pub kept : List ℕ → List ℕ
-kept l = take 129 l
-
-command_kept : (l : List ℕ) → command_in (kept l) ≡ command_in l
+pub command_kept : (l : List ℕ) → command_in (kept l) ≡ command_in l
 command_kept l =
     by_lt 128 (length l)
     (λ h. sym (beyond (kept l) (let e = length-take 129 l in omega (arith, h, e))) ∙ beyond l h)

@@ -18,6 +18,7 @@ keeps s more ys n l k e f g =
     let b : length ys ≡ k = ap length g ∙ length-take-le k more (omega (arith, f)) in
     let c : l + k - l ≡ k = omega arith in
     let m : length s ≡ length (take l s) + (length s - l) = omega (arith, a, e) in
+    let q = same_len_mid l (l + k - l) s ys (simp (length-take, length-drop) (omega (arith, b, e, f))) in
     record {
       line =
           ap (take (l + k)) (sym (append_assoc (take l s) ys (drop (l + k - l) (drop l s))))
@@ -26,5 +27,6 @@ keeps s more ys n l k e f g =
           ∙ sym (take-append-add (take l s) more (length s - l))
           ∙ ap (λ i. take i (take l s ++ more)) (sym m)
           ∙ ap (λ xs. take (length s) (xs ++ more)) (upto n l s e);
-      places = same_len_mid l (l + k - l) s ys (simp (length-take, length-drop) (omega (arith, b, e, f)));
+      places = q;
+      within = omega (arith, q, e, f);
     }

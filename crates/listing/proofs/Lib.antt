@@ -2,3 +2,5 @@ pub mod Opened
 pub mod Asked
 pub mod Keeping
 pub mod Cutting
+pub mod Feeding
+pub mod Filling

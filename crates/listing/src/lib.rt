@@ -4,4 +4,5 @@
 mod listing;
 mod session;
 
+pub use listing::{Filled, Listing};
 pub use session::Session;
