@@ -10,7 +10,7 @@ use Rattle.std.proofs.lemmas.List.{take_all}
 use Rattle.line.specs.Answer.{answer_text}
 use Rattle.line.specs.Reading.{command_in}
 use Rattle.listing.specs.Feeding.{kept}
-use Rattle.listing.specs.Lines.{ended, begun}
+use Rattle.listing.specs.Lines.{ended, begun, last_line}
 use Rattle.listing.specs.Program.{line_for, after, texts, after_lines}
 use Rattle.model.specs.World.{World}
 use Rattle.numbers.proofs.Cases.{cases, by_lt, clash}
@@ -156,3 +156,7 @@ texts_ended s c y = sym (texts_kept s (ended (kept c) y)) ∙ ap (texts s) (line
 
 pub after_ended : (s : Option World) (c y : List ℕ) → after_lines s (ended (kept c) y) ≡ after_lines s (ended c y)
 after_ended s c y = sym (after_kept s (ended (kept c) y)) ∙ ap (after_lines s) (lines_kept c y) ∙ after_kept s (ended c y)
+
+pub last_kept : (s : Option World) (c : List ℕ) → texts s (last_line (kept c)) ≡ texts s (last_line c)
+last_kept s [] = refl
+last_kept s (b ∷ c) = texts_kept s ((b ∷ c) ∷ [])

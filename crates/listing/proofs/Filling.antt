@@ -94,11 +94,11 @@ module _ {at end : ℕ} {text s t : List ℕ} (p : Put at text s t end) (room : 
 module _ (l : Listing) (block out₀ : List ℕ) where
   pub front_start : Front l block out₀ l out₀ 0 0
   unfolding ended texts
-  front_start = record { within = omega arith; fed = fed_start l; told = λ r. refl; places = refl; upto = omega arith; behind = refl }
+  front_start = record { within = omega arith; none = λ z. refl; fed = fed_start l; told = λ r. refl; places = refl; upto = omega arith; behind = refl }
 
   pub front_on : {m n : Listing} {out ys : List ℕ} {b t e : ℕ} {x : Next} → Front l block out₀ m out b t → Takes m (take (length block - b) (drop b block)) n x
-      → Put t (text_in x.answer) out ys e → length (text_in x.answer) ≤ 105 → 105 ≤ length out - t → Front l block out₀ n ys (b + x.bytes) e
-  front_on {m = m} {n = n} {out = out} {ys = ys} {b = b} {t = t} {e = e} {x = x} f k₀ p h g =
+      → Put t (text_in x.answer) out ys e → length (text_in x.answer) ≤ 105 → 105 ≤ length out - t → b < length block → Front l block out₀ n ys (b + x.bytes) e
+  front_on {m = m} {n = n} {out = out} {ys = ys} {b = b} {t = t} {e = e} {x = x} f k₀ p h g i =
       let k = subst (λ y. Takes m y n x) (take_all (length block - b) (drop b block) (let d = length-drop b block in omega (arith, d))) k₀ in
       let room : t + length (text_in x.answer) ≤ length out = let u = f.upto in omega (arith, h, g, u) in
       let s : take (b + x.bytes) block ≡ take b block ++ take x.bytes (drop b block) = take-add b x.bytes block in
@@ -106,6 +106,7 @@ module _ (l : Listing) (block out₀ : List ℕ) where
       let c = put_places p room in
       record {
         within = let a = k.within in let d = length-drop b block in let w = f.within in omega (arith, a, d, w);
+        none = λ z. let d = length-drop b block in let s = k.some (omega (arith, d, i)) in absurd (omega (arith, s, z));
         fed = subst (λ y. Fed l y n) (sym s) (fed_on f.fed k.fed);
         told = λ r. put_front p room ∙ told_on f.fed (take x.bytes (drop b block)) _ _ r (f.told r) (k.told (f.fed.ready r)) ∙ ap (λ y. texts (world_in l) (ended (begun_in l) y)) (sym s);
         places = c ∙ f.places;

@@ -4,3 +4,4 @@ pub mod Keeping
 pub mod Cutting
 pub mod Feeding
 pub mod Filling
+pub mod Running

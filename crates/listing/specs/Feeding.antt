@@ -4,7 +4,7 @@ use Rattle.line.specs.Answer.{answer_text}
 use Rattle.line.specs.Meaning.{line_of}
 use Rattle.line.specs.Reading.{command_in}
 use Rattle.line.specs.declared.answer.Answer.{Answer}
-use Rattle.listing.specs.Lines.{ended, begun}
+use Rattle.listing.specs.Lines.{ended, begun, last_line}
 use Rattle.listing.specs.Program.{line_for, after, texts, after_lines}
 use Rattle.listing.specs.Session as session
 use Rattle.listing.specs.declared.listing.Filled.{Filled}
@@ -35,6 +35,12 @@ pub record Ready (l : Listing) : Type 0 where
   pub session : session.Ready l.session
   pub places : length l.begun ≡ 129
 
+-- No byte has come yet.
+pub record Begins (l : Listing) : Type 0 where
+  pub ready : Ready l
+  pub world : world_in l ≡ None
+  pub begun : begun_in l ≡ []
+
 -- ---- some bytes
 
 -- What bytes have made of the state: the world after the lines that have ended, and what has come of the next.
@@ -54,6 +60,10 @@ pub record Ends (l : Listing) (more : List ℕ) (m : Listing) (a : Answer) : Typ
   pub world : Ready l → world_in m ≡ after (world_in l) (command_in (begun_in l ++ more))
   pub begun : begun_in m ≡ []
 
+-- The end of the input.
+pub record Lasts (l : Listing) (r : Option Answer) : Type 0 where
+  pub told : Ready l → text_in r ≡ texts (world_in l) (last_line (begun_in l))
+
 -- The bytes up to the first line end, or all: the answer of that line.
 pub record Takes (l : Listing) (rest : List ℕ) (m : Listing) (r : Next) : Type 0 where
   pub within : r.bytes ≤ length rest
@@ -64,6 +74,8 @@ pub record Takes (l : Listing) (rest : List ℕ) (m : Listing) (r : Next) : Type
 -- The first bytes of a block: the answers of the lines that they end stand in front of the list that is lent for them.
 pub record Front (l : Listing) (block out₀ : List ℕ) (m : Listing) (out : List ℕ) (bytes text : ℕ) : Type 0 where
   pub within : bytes ≤ length block
+  -- no bytes, no answers
+  pub none : bytes ≡ 0 → text ≡ 0
   pub fed : Fed l (take bytes block) m
   pub told : Ready l → take text out ≡ texts (world_in l) (ended (begun_in l) (take bytes block))
   -- "slots past a written answer keep their content"

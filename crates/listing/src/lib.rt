@@ -2,7 +2,9 @@
 #![tactic(auto)]
 
 mod listing;
+mod program;
 mod session;
 
 pub use listing::{Filled, Listing};
+pub use program::run;
 pub use session::Session;

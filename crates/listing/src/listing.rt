@@ -2,12 +2,13 @@
 ghost use Rattle.std.specs.Prelude.{◌≡◌, ◌≤◌, eqb, length};
 ghost use Rattle.line.specs.Answer.{Put};
 ghost use Rattle.std.specs.List.{position};
-ghost use Rattle.listing.specs.Feeding.{Kept, Ends, Takes, Fills, text_in};
+ghost use Rattle.listing.specs.Feeding.{Begins, Kept, Ends, Lasts, Takes, Fills, text_in};
 
 use crate::session::Session;
 use line::Answer;
 
 // The program's state between two blocks.
+#[derive(Drop)]
 pub struct Listing {
     pub session: Session,
     // What has come of the next line stands in front; of a longer line its first 129 bytes.
@@ -48,7 +49,7 @@ fn line_end(bytes: &[u8]) -> Option<usize>
 }
 
 // Writes an answer, if there is one, to out from at on; answers where it ends.
-fn put(answer: Option<Answer>, out: &mut [u8], at: usize) -> usize
+pub(crate) fn put(answer: Option<Answer>, out: &mut [u8], at: usize) -> usize
     ensures puts { Put at (text_in answer) out.old out.new result }
     ensures short { length (text_in answer) ≤ 105 }
 {
@@ -59,6 +60,17 @@ fn put(answer: Option<Answer>, out: &mut [u8], at: usize) -> usize
 }
 
 impl Listing {
+    // Before the first byte.
+    pub fn new() -> Listing
+        ensures { Begins result }
+    {
+        Listing {
+            session: Session::new(),
+            begun: [0; 129],
+            len: 0,
+        }
+    }
+
     // The answer of the line that has begun and goes on with these bytes to its end.
     fn whole(&mut self, more: &[u8]) -> Answer
         ensures { Ends self.old more.now self.new result }
@@ -69,6 +81,16 @@ impl Listing {
         let len = keep(&mut self.begun, self.len, more);
         self.len = 0;
         self.session.answer(&self.begun[..len])
+    }
+
+    // The answer of a last line that lacks its line end.
+    pub(crate) fn last(&mut self) -> Option<Answer>
+        ensures { Lasts self.old result }
+    {
+        if self.len == 0 {
+            return None;
+        }
+        Some(self.whole(&[]))
     }
 
     // Takes the bytes up to the first line end, or all.

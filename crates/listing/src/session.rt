@@ -14,6 +14,7 @@ use plan_open::Opening;
 use plan_record::{Outcome, Plan, Reply};
 
 // The plan and its lists, once a line has opened it. Lists have 64 rows of 60 places.
+#[derive(Drop)]
 pub struct Session {
     pub plan: Plan,
     pub opened: bool,

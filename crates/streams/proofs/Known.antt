@@ -1,5 +1,5 @@
 -- What several reads and writes one after another do to the bytes that are known.
-use Rattle.std.proofs.Common.{ℕ, ◌+◌, ◌-◌, ◌≤◌, List, [], ◌++◌, length, take, drop, refl, sym, ap, ◌∙◌, arith, append_assoc, append-nil, length-drop, length-take, Option, None, Some, Result, Ok, Err, subst}
+use Rattle.std.proofs.Common.{◌≡◌, ℕ, ◌+◌, ◌-◌, ◌≤◌, List, [], ◌++◌, length, take, drop, refl, sym, ap, ◌∙◌, arith, append_assoc, append-nil, length-drop, length-take, Option, None, Some, Result, Ok, Err, subst}
 use lib.ListN.{take-append-drop}
 use lib.Seq.{take-add}
 use Rattle.std.proofs.lemmas.List.{take_all}
@@ -70,3 +70,39 @@ sent_more a b c text at n h k =
 
 pub part_within : (text : List ℕ) (at n : ℕ) → at ≤ length text → n ≤ length (take (length text - at) (drop at text)) → at + n ≤ length text
 part_within text at n h k = let e = length-take (length text - at) (drop at text) in omega (arith, h, k, e)
+
+-- ---- one text behind another
+
+pub sent_then : {T E : Type 0} {r : Result T E} (a b c : Option (List ℕ)) (x y : List ℕ) → Appends a b x → Sent b c y r → Sent a c (x ++ y) r
+sent_then a b c x y w s =
+    record {
+      sent = x ++ s.sent;
+      rest = s.rest;
+      parts = ap (λ l. x ++ l) s.parts ∙ sym (append_assoc x s.sent s.rest);
+      wrote = appends_on a b c x s.sent w s.wrote;
+      whole = s.whole;
+    }
+
+-- What follows a text that was not written whole is not written.
+pub sent_short : {T E U F : Type 0} (a b : Option (List ℕ)) (x z : List ℕ) (e : E) (d : F) → Sent {T = T} {E = E} a b x (Err e) → Sent {T = U} {E = F} a b (x ++ z) (Err d)
+sent_short a b x z e d s =
+    record { sent = s.sent; rest = s.rest ++ z; parts = ap (λ l. l ++ z) s.parts ∙ append_assoc s.sent s.rest z; wrote = s.wrote; whole = tt; }
+
+pub sent_front : {T E : Type 0} (a b : Option (List ℕ)) (x z : List ℕ) (e : E) → Appends a b x → Sent {T = T} {E = E} a b (x ++ z) (Err e)
+sent_front a b x z e w = record { sent = x; rest = z; parts = refl; wrote = w; whole = tt; }
+
+-- A text that was sent is written.
+pub sent_whole : {T E : Type 0} (a b : Option (List ℕ)) (x : List ℕ) (v : T) → Sent {T = T} {E = E} a b x (Ok v) → Appends a b x
+sent_whole a b x v s = subst (Appends a b) (sym (s.parts ∙ ap (λ l. s.sent ++ l) s.whole ∙ append-nil s.sent)) s.wrote
+
+pub consumes_keeps : (a b c : Option (List ℕ)) (x : List ℕ) → Consumes a b x → Keeps b c → Consumes a c x
+consumes_keeps None b c x h k = tt
+consumes_keeps (Some u) None c x h k = absurd h
+consumes_keeps (Some u) (Some v) None x h k = absurd k
+consumes_keeps (Some u) (Some v) (Some w) x h k = h ∙ ap (λ l. x ++ l) (sym k)
+
+-- No bytes were read.
+pub nothing_read : (a b : Option (List ℕ)) (n : ℕ) (s : List ℕ) → n ≡ 0 → Consumes a b (take n s) → Keeps a b
+nothing_read None b n s z h = tt
+nothing_read (Some u) None n s z h = absurd h
+nothing_read (Some u) (Some v) n s z h = sym (h ∙ ap (λ k. take k s ++ v) z)

@@ -9,5 +9,5 @@ loop-bytes-preserved c =
     record {
       front =
           front_on c.args.self.now c.args.block.now c.args.out.now c.loop-bytes.invariant.front c.next-next.ensures c.put-text.ensures.puts c.put-text.ensures.short
-          c.if-out-text-ge105.true;
+          c.if-out-text-ge105.true c.loop-bytes-test.true;
     }
