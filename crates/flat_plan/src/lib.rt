@@ -1,6 +1,7 @@
 // A plan as flat numbers, and a plan from them.
 #![tactic(auto)]
 
+mod lent;
 mod record;
 mod region;
 

@@ -1,0 +1,2 @@
+pub mod Writing
+pub mod Opening

@@ -1,0 +1,154 @@
+// The plan for callers in C and Rust. Nothing is decided here: each function calls the plan, and promises
+// what the call does of the plan that the container's numbers stand for.
+#![tactic(auto)]
+
+mod readers;
+
+ghost use Rattle.std.specs.Prelude.{◌≡◌, cond, is_ok};
+ghost use Rattle.flat_plan.specs.Plan.{plan_from, flat_plan, flat_reply};
+ghost use Rattle.flat.specs.Flat.{cap_from};
+ghost use Rattle.flat_plan.specs.Record.{records_from};
+ghost use Rattle.model.specs.Calls as model;
+ghost use Rattle.plan_open.specs.Open.{opening_of, Opens};
+ghost use Rattle.plan.specs.Calls.{Changes, Leaves, Grows, Locates};
+ghost use Rattle.fundravai.specs.Flat.{limits_of, FlatReplied, FlatCalled, FlatOpened, SameLists};
+
+use flat::cap_from;
+use flat_plan::{FlatPlan, FlatRecord, FlatReply, records_from};
+use footprint::Limits;
+use numbers::Refusal;
+use plan_open::Opening;
+use plan_record::{Plan, Reply};
+
+// A plan and its lists, in one piece of the caller's memory.
+#[repr(C)]
+pub struct Container {
+    pub plan: FlatPlan,
+    pub extents: [u64; 7680],
+    pub starts: [u64; 3840],
+    pub files: [u64; 3840],
+}
+
+// Writes an accepted call's plan as numbers, and nothing where it was refused; the reply is handed on.
+#[inline(always)]
+fn write_back(flat: &mut FlatPlan, plan: Plan, reply: Reply) -> FlatReply
+    ensures told { result ≡ flat_reply reply }
+    ensures plan { flat.new ≡ cond (is_ok reply) (flat_plan plan) flat.old }
+{
+    if reply.is_ok() {
+        flat.write(&plan);
+    }
+    reply.into()
+}
+
+// Opens a container: its limits, its records, and the extents that their headers list, one record's after
+// another's.
+#[unsafe(no_mangle)]
+pub extern "C" fn fundravai_open(
+    c: &mut Container,
+    log2_block: u8,
+    table_end: u64,
+    file_len: u64,
+    records: &[FlatRecord],
+    listed: &[u64],
+    scratch: &mut [u64],
+) -> FlatReply
+    ensures { FlatOpened (Opens (opening_of (limits_of log2_block table_end file_len) (records_from records.now) listed.now scratch.old c.old.extents c.old.starts c.old.files) c.old.extents c.new.extents c.old.starts c.new.starts c.old.files c.new.files) c.old c.new result }
+{
+    if records.len() > 64 {
+        return Reply::Err(Refusal::Lists).into();
+    }
+    let given = records_from(records);
+    let opening = Opening {
+        limits: Limits {
+            log2_block,
+            table_end,
+            file_len,
+        },
+        records: &given[..records.len()],
+        listed,
+    };
+    let outcome = plan_open::open(
+        opening,
+        scratch,
+        &mut c.extents,
+        &mut c.starts,
+        &mut c.files,
+    );
+    write_back(&mut c.plan, outcome.plan, outcome.reply)
+}
+
+#[tactic(auto, using(crate::proofs::Writing::grow_written))]
+#[unsafe(no_mangle)]
+pub extern "C" fn fundravai_grow(c: &mut Container, id: u64) -> FlatReply
+    ensures { FlatCalled (Grows (plan_from c.old.plan) (model.grow id) id c.old.extents c.old.starts c.old.files c.new.extents c.new.starts c.new.files) c.old c.new result }
+{
+    let mut plan = Plan::blank();
+    c.plan.fill(&mut plan);
+    let reply = plan::grow(&mut plan, &mut c.extents, &mut c.starts, &mut c.files, id);
+    write_back(&mut c.plan, plan, reply)
+}
+
+#[tactic(auto, using(crate::proofs::Writing::changes_written))]
+#[unsafe(no_mangle)]
+pub extern "C" fn fundravai_publish(c: &mut Container, id: u64, len: u64) -> FlatReply
+    ensures called { FlatCalled (Changes (plan_from c.old.plan) (model.publish id len)) c.old c.new result }
+    ensures lists { SameLists c.old c.new }
+{
+    let mut plan = Plan::blank();
+    c.plan.fill(&mut plan);
+    let reply = plan::publish(&mut plan, id, len);
+    write_back(&mut c.plan, plan, reply)
+}
+
+#[tactic(auto, using(crate::proofs::Writing::leaves_written))]
+#[unsafe(no_mangle)]
+pub extern "C" fn fundravai_create(c: &mut Container, id: u64, tag: u32, name: &[u8]) -> FlatReply
+    ensures { FlatCalled (Leaves (plan_from c.old.plan) (model.create id tag name.now) c.old.extents c.old.starts c.old.files c.new.extents c.new.starts c.new.files) c.old c.new result }
+{
+    let mut plan = Plan::blank();
+    c.plan.fill(&mut plan);
+    let reply = plan::create(
+        &mut plan,
+        &mut c.extents,
+        &mut c.starts,
+        &mut c.files,
+        id,
+        tag,
+        name,
+    );
+    write_back(&mut c.plan, plan, reply)
+}
+
+#[tactic(auto, using(crate::proofs::Writing::leaves_written))]
+#[unsafe(no_mangle)]
+pub extern "C" fn fundravai_drop(c: &mut Container, id: u64) -> FlatReply
+    ensures { FlatCalled (Leaves (plan_from c.old.plan) (model.drop id) c.old.extents c.old.starts c.old.files c.new.extents c.new.starts c.new.files) c.old c.new result }
+{
+    let mut plan = Plan::blank();
+    c.plan.fill(&mut plan);
+    let reply = plan::drop(&mut plan, &mut c.extents, &mut c.starts, &mut c.files, id);
+    write_back(&mut c.plan, plan, reply)
+}
+
+// Sets a tag's cap, or clears it: whether there is one, and the limit.
+#[tactic(auto, using(crate::proofs::Writing::changes_written))]
+#[unsafe(no_mangle)]
+pub extern "C" fn fundravai_cap(c: &mut Container, tag: u32, capped: bool, limit: u64) -> FlatReply
+    ensures called { FlatCalled (Changes (plan_from c.old.plan) (model.cap tag (cap_from capped limit))) c.old c.new result }
+    ensures lists { SameLists c.old c.new }
+{
+    let mut plan = Plan::blank();
+    c.plan.fill(&mut plan);
+    let reply = plan::cap(&mut plan, tag, cap_from(capped, limit));
+    write_back(&mut c.plan, plan, reply)
+}
+
+#[unsafe(no_mangle)]
+pub extern "C" fn fundravai_locate(c: &Container, id: u64, pos: u64, n: u64) -> FlatReply
+    ensures { FlatReplied (Locates (plan_from c.now.plan) id pos n c.now.starts c.now.files) result }
+{
+    let mut plan = Plan::blank();
+    c.plan.fill(&mut plan);
+    plan::locate(&plan, &c.starts, &c.files, id, pos, n).into()
+}
