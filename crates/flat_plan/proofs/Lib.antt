@@ -1,2 +1,3 @@
 pub mod Again
 pub mod Alike
+pub mod Many

@@ -68,7 +68,7 @@ impl From<FlatRecord> for Record {
 }
 
 // Up to 64 records, as many as open takes; those behind them are blank.
-pub fn records_from(flat: &[FlatRecord]) -> [Record; 64]
+pub(crate) fn records_from(flat: &[FlatRecord]) -> [Record; 64]
     ensures { length flat.now ≤ 64 → take (length flat.now) result ≡ records_from flat.now }
 {
     let mut records = [Record::blank(); 64];

@@ -8,10 +8,12 @@ use Rattle.flat_plan.specs.Plan.{plan_from, flat_plan, flat_reply}
 use Rattle.flat_plan.specs.declared.FlatPlan.{FlatPlan}
 use Rattle.flat_plan.specs.declared.FlatReply.{FlatReply}
 use Rattle.flat_plan.proofs.Again.{from_flat}
-use Rattle.fundravai.specs.Flat.{FlatCalled}
+use Rattle.fundravai.specs.Flat.{FlatCalled, FlatOpened}
 use Rattle.fundravai.specs.declared.Container.{Container}
 use Rattle.numbers.specs.declared.refusal.Refusal.{Refusal}
 use Rattle.numbers.proofs.Cases.{clash}
+use Rattle.model.specs.Open.{Opening}
+use Rattle.plan_open.specs.Open.{Opens}
 use Rattle.plan.specs.Calls.{Called, Changes, Leaves, Grows, left}
 use Rattle.plan_record.specs.Plan.{Reply}
 use Rattle.plan_record.specs.declared.Outcome.{Outcome}
@@ -58,3 +60,25 @@ module _ (c : Container) {told : FlatReply} {q p : Plan} {f : FlatPlan} {r : Rep
 
   pub changes_written : Changes q k (left r p) → FlatCalled (Changes (plan_from c.plan) k) c (with_lists f c.extents c.starts c.files) told
   changes_written h = rw (← e) (written _ c p f _ _ _ r t g h (λ n b. (((h.called [] [] []).refused n b).0 ∙ e, refl, refl, refl)))
+
+-- what stands in a container where an open accepts, and where it refuses
+pub opened : {o : Opening} {c : Container} {told : FlatReply} {xs ss fs : List ℕ} {f : FlatPlan} {p : Plan} (r : Reply) → told ≡ flat_reply r
+    → f ≡ cond (is_ok r) (flat_plan p) c.plan → Opens o c.extents xs c.starts ss c.files fs (record { reply = r; plan = p })
+    → FlatOpened (Opens o c.extents xs c.starts ss c.files fs) c (with_lists f xs ss fs) told
+opened {p = p} (Ok a) t e o =
+    record {
+      outcome = record { reply = Ok a; plan = p };
+      promise = o;
+      flat = t;
+      plan = λ z. ap plan_from e ∙ from_flat p;
+      refused = λ n z. clash refl (ap is_ok z);
+    }
+opened {p = p} (Err n) t e o =
+    let k = o.kept n refl in
+    record {
+      outcome = record { reply = Err n; plan = p };
+      promise = o;
+      flat = t;
+      plan = λ z. clash refl (sym (ap is_ok z));
+      refused = λ m z. rw (e, k.1, k.2, k.3) refl;
+    }

@@ -14,10 +14,8 @@ ghost use Rattle.plan.specs.Calls.{Changes, Leaves, Grows, Locates};
 ghost use Rattle.fundravai.specs.Flat.{limits_of, FlatReplied, FlatCalled, FlatOpened, SameLists};
 
 use flat::cap_from;
-use flat_plan::{FlatPlan, FlatRecord, FlatReply, records_from};
+use flat_plan::{FlatPlan, FlatRecord, FlatReply};
 use footprint::Limits;
-use numbers::Refusal;
-use plan_open::Opening;
 use plan_record::{Plan, Reply};
 
 // A plan and its lists, in one piece of the caller's memory.
@@ -55,21 +53,15 @@ pub extern "C" fn fundravai_open(
 ) -> FlatReply
     ensures { FlatOpened (Opens (opening_of (limits_of log2_block table_end file_len) (records_from records.now) listed.now scratch.old c.old.extents c.old.starts c.old.files) c.old.extents c.new.extents c.old.starts c.new.starts c.old.files c.new.files) c.old c.new result }
 {
-    if records.len() > 64 {
-        return Reply::Err(Refusal::Lists).into();
-    }
-    let given = records_from(records);
-    let opening = Opening {
-        limits: Limits {
-            log2_block,
-            table_end,
-            file_len,
-        },
-        records: &given[..records.len()],
-        listed,
+    let limits = Limits {
+        log2_block,
+        table_end,
+        file_len,
     };
-    let outcome = plan_open::open(
-        opening,
+    let outcome = flat_plan::open(
+        limits,
+        records,
+        listed,
         scratch,
         &mut c.extents,
         &mut c.starts,
