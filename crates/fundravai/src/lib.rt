@@ -1,24 +1,24 @@
-// The plan for callers in C and Rust. Nothing is decided here: each function calls the plan, and promises
-// what the call does of the plan that the container's numbers stand for.
+// The plan for callers in C and Rust, whose memory it stands in. Nothing is decided here: each function calls
+// the plan, and promises what the call does of the plan that the container's numbers stand for.
 #![tactic(auto)]
 
 mod readers;
 
 ghost use Rattle.std.specs.Prelude.{◌≡◌, cond, is_ok};
-ghost use Rattle.flat_plan.specs.Plan.{plan_from, flat_plan, flat_reply};
 ghost use Rattle.flat.specs.Flat.{cap_from};
+ghost use Rattle.flat_plan.specs.Plan.{plan_from, flat_plan, flat_reply};
 ghost use Rattle.flat_plan.specs.Record.{records_from};
-ghost use Rattle.model.specs.Calls as model;
-ghost use Rattle.plan_open.specs.Open.{opening_of, Opens};
-ghost use Rattle.plan.specs.Calls.{Changes, Leaves, Grows, Locates};
 ghost use Rattle.fundravai.specs.Flat.{limits_of, FlatReplied, FlatCalled, FlatOpened, SameLists};
+ghost use Rattle.model.specs.Calls as model;
+ghost use Rattle.plan.specs.Calls.{Changes, Leaves, Grows, Locates};
+ghost use Rattle.plan_open.specs.Open.{opening_of, Opens};
 
 use flat::cap_from;
 use flat_plan::{FlatPlan, FlatRecord, FlatReply};
 use footprint::Limits;
 use plan_record::{Plan, Reply};
 
-// A plan and its lists, in one piece of the caller's memory.
+// A plan's record as numbers, with the lists that are lent to its calls: 64 rows of 60 places.
 #[repr(C)]
 pub struct Container {
     pub plan: FlatPlan,
@@ -27,7 +27,8 @@ pub struct Container {
     pub files: [u64; 3840],
 }
 
-// Writes an accepted call's plan as numbers, and nothing where it was refused; the reply is handed on.
+// Writes an accepted call's plan as numbers, and nothing where it was refused; the reply is handed on. Not
+// inlined, the plan is copied twice more.
 #[inline(always)]
 fn write_back(flat: &mut FlatPlan, plan: Plan, reply: Reply) -> FlatReply
     ensures told { result ≡ flat_reply reply }
@@ -70,29 +71,7 @@ pub extern "C" fn fundravai_open(
     write_back(&mut c.plan, outcome.plan, outcome.reply)
 }
 
-#[tactic(auto, using(crate::proofs::Writing::grow_written))]
-#[unsafe(no_mangle)]
-pub extern "C" fn fundravai_grow(c: &mut Container, id: u64) -> FlatReply
-    ensures { FlatCalled (Grows (plan_from c.old.plan) (model.grow id) id c.old.extents c.old.starts c.old.files c.new.extents c.new.starts c.new.files) c.old c.new result }
-{
-    let mut plan = Plan::blank();
-    c.plan.fill(&mut plan);
-    let reply = plan::grow(&mut plan, &mut c.extents, &mut c.starts, &mut c.files, id);
-    write_back(&mut c.plan, plan, reply)
-}
-
-#[tactic(auto, using(crate::proofs::Writing::changes_written))]
-#[unsafe(no_mangle)]
-pub extern "C" fn fundravai_publish(c: &mut Container, id: u64, len: u64) -> FlatReply
-    ensures called { FlatCalled (Changes (plan_from c.old.plan) (model.publish id len)) c.old c.new result }
-    ensures lists { SameLists c.old c.new }
-{
-    let mut plan = Plan::blank();
-    c.plan.fill(&mut plan);
-    let reply = plan::publish(&mut plan, id, len);
-    write_back(&mut c.plan, plan, reply)
-}
-
+// Creates a region.
 #[tactic(auto, using(crate::proofs::Writing::leaves_written))]
 #[unsafe(no_mangle)]
 pub extern "C" fn fundravai_create(c: &mut Container, id: u64, tag: u32, name: &[u8]) -> FlatReply
@@ -112,6 +91,32 @@ pub extern "C" fn fundravai_create(c: &mut Container, id: u64, tag: u32, name: &
     write_back(&mut c.plan, plan, reply)
 }
 
+// Gives a region one extent more.
+#[tactic(auto, using(crate::proofs::Writing::grow_written))]
+#[unsafe(no_mangle)]
+pub extern "C" fn fundravai_grow(c: &mut Container, id: u64) -> FlatReply
+    ensures { FlatCalled (Grows (plan_from c.old.plan) (model.grow id) id c.old.extents c.old.starts c.old.files c.new.extents c.new.starts c.new.files) c.old c.new result }
+{
+    let mut plan = Plan::blank();
+    c.plan.fill(&mut plan);
+    let reply = plan::grow(&mut plan, &mut c.extents, &mut c.starts, &mut c.files, id);
+    write_back(&mut c.plan, plan, reply)
+}
+
+// Publishes the first len bytes of a region.
+#[tactic(auto, using(crate::proofs::Writing::changes_written))]
+#[unsafe(no_mangle)]
+pub extern "C" fn fundravai_publish(c: &mut Container, id: u64, len: u64) -> FlatReply
+    ensures called { FlatCalled (Changes (plan_from c.old.plan) (model.publish id len)) c.old c.new result }
+    ensures lists { SameLists c.old c.new }
+{
+    let mut plan = Plan::blank();
+    c.plan.fill(&mut plan);
+    let reply = plan::publish(&mut plan, id, len);
+    write_back(&mut c.plan, plan, reply)
+}
+
+// Drops a region.
 #[tactic(auto, using(crate::proofs::Writing::leaves_written))]
 #[unsafe(no_mangle)]
 pub extern "C" fn fundravai_drop(c: &mut Container, id: u64) -> FlatReply
@@ -123,7 +128,7 @@ pub extern "C" fn fundravai_drop(c: &mut Container, id: u64) -> FlatReply
     write_back(&mut c.plan, plan, reply)
 }
 
-// Sets a tag's cap, or clears it: whether there is one, and the limit.
+// Sets a tag's cap, or clears it. The cap is two numbers: whether there is one, and the limit, else any.
 #[tactic(auto, using(crate::proofs::Writing::changes_written))]
 #[unsafe(no_mangle)]
 pub extern "C" fn fundravai_cap(c: &mut Container, tag: u32, capped: bool, limit: u64) -> FlatReply
@@ -136,6 +141,7 @@ pub extern "C" fn fundravai_cap(c: &mut Container, tag: u32, capped: bool, limit
     write_back(&mut c.plan, plan, reply)
 }
 
+// The byte of position pos of a region, where the n bytes from there are published and lie in one run.
 #[unsafe(no_mangle)]
 pub extern "C" fn fundravai_locate(c: &Container, id: u64, pos: u64, n: u64) -> FlatReply
     ensures { FlatReplied (Locates (plan_from c.now.plan) id pos n c.now.starts c.now.files) result }
