@@ -72,16 +72,16 @@ pub extern "C" fn fundravai_region_count(c: &Container) -> usize
 pub extern "C" fn fundravai_region(
     c: &Container,
     i: usize,
-    record: &mut FlatRecord,
+    filed: &mut FlatRecord,
     out: &mut [u64],
 ) -> FlatReply
-    ensures { FlatHands (Hands (plan_from c.now.plan) i c.now.extents out.old out.new) record.old record.new result }
+    ensures { FlatHands (Hands (plan_from c.now.plan) i c.now.extents out.old out.new) filed.old filed.new result }
 {
     let mut plan = Plan::blank();
     c.plan.fill(&mut plan);
     match plan.region(i, &c.extents, out) {
         Ok(region) => {
-            *record = region.into();
+            *filed = region.into();
             Reply::Ok(None).into()
         }
         Err(refusal) => Reply::Err(refusal).into(),
