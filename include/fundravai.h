@@ -11,7 +11,9 @@
  * the count 0. What a call writes to must not overlap anything else that it is lent. A bool is 0 or 1, also in
  * the records that you fill in. Beyond this no call asks anything: whatever the numbers are, it answers.
  *
- * A refused call changes no byte of the container.
+ * A refused call changes no number of the container.
+ *
+ * Stack, measured on x86-64: fundravai_open 300 KB, fundravai_create and fundravai_grow 150 KB, any other 20 KB.
  *
  * What each function promises is proved: crates/fundravai/src has the contracts.
  */
