@@ -1,13 +1,11 @@
 -- Lists turned into others item by item.
-use Prim.Native.Nat.{ℕ, ◌+◌, ◌<◌, ◌≤◌}
+use Prim.Native.Nat.{ℕ, ◌<◌, ◌≤◌}
 use mathlib.Core.List.{List, [], ◌∷◌, map}
-use mathlib.Core.Path.{◌≡◌, refl, ◌∙◌, sym, ap, subst}
+use mathlib.Core.Path.{◌≡◌, refl, ◌∙◌, sym, ap}
 use native.Mathlib.Omega.{arith}
-use lib.ListN.{length, get_or, set, take, get_or-map, length-set, length-take}
-use Rattle.std.proofs.lemmas.List.{ext_get_or, length-map, get_or-set_other, get_or-take}
-use Rattle.std.proofs.lemmas.Grind.{get_or-set_at}
+use lib.ListN.{length, get_or, take, get_or-map, length-take}
+use Rattle.std.proofs.lemmas.List.{ext_get_or, length-map, get_or-take}
 use lib.Seq.{take-length}
-use Rattle.numbers.proofs.Cases.{by_eq}
 use Rattle.accounting.specs.Table.{accounts_of}
 use Rattle.plan_record.specs.Plan.{blank_plan}
 use Rattle.flat_plan.specs.Lent.{Turned}
@@ -17,18 +15,6 @@ module _ {A B : Type 0} (G : A → B → Type 0) (xs : List A) (ys₀ : List B) 
   pub record Turning (ys : List B) (n : ℕ) : Type 0 where
     pub long : length ys ≡ length ys₀
     pub at : (i : ℕ) (x : A) (y : B) → i < n → i < length ys → G (get_or xs i x) (get_or ys i y)
-
-  pub turning_begins : Turning ys₀ 0
-  turning_begins = record { long = refl; at = λ i x y h b. absurd (omega (arith, h)) }
-
-  pub turning_turns : {ys : List B} {n : ℕ} {x : A} {y : B} → Turning ys n → n < length ys → ((d : A) → get_or xs n d ≡ x) → G x y → Turning (set ys n y) (n + 1)
-  turning_turns {ys} {n} {x} {y} t h a g =
-      record {
-        long = length-set ys n y ∙ t.long;
-        at =
-            λ i p q m b. by_eq i n (λ e. subst (λ (z : B). G (get_or xs i p) z) (sym (get_or-set_at ys n i y q e h)) (rw (e, a p) g))
-            (λ d. subst (λ (z : B). G (get_or xs i p) z) (sym (get_or-set_other ys n i y q d)) (t.at i p q (omega (arith, m, d)) (omega (arith, b, length-set ys n y))));
-      }
 
 -- where each is h of its item, the front of the list is the other mapped
 pub turned_front : {A B : Type 0} {G : A → B → Type 0} (h : A → B) (xs : List A) (ys₀ ys : List B) → Turned G xs ys₀ ys → length xs ≤ length ys₀

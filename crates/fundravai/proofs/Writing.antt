@@ -14,7 +14,7 @@ use Rattle.numbers.specs.declared.refusal.Refusal.{Refusal}
 use Rattle.numbers.proofs.Cases.{clash}
 use Rattle.model.specs.Open.{Opening}
 use Rattle.plan_open.specs.Open.{Opens}
-use Rattle.plan.specs.Calls.{Called, Changes, Leaves, Grows, left}
+use Rattle.plan.specs.Calls.{Changes, Leaves, Grows, left}
 use Rattle.plan_record.specs.Plan.{Reply}
 use Rattle.plan_record.specs.declared.Outcome.{Outcome}
 use Rattle.plan_record.specs.declared.Plan.{Plan}

@@ -1,6 +1,6 @@
 -- The regions are turned, and the accounts' rows.
 use Rattle.std.proofs.Common.{rules, ◌≡◌, length}
-use mathlib.Core.Path.{sym, ◌∙◌, ap, refl}
+use mathlib.Core.Path.{sym, ◌∙◌, ap}
 use Rattle.flat.specs.Flat.{row_from, accounts_from}
 use Rattle.flat_plan.specs.Plan.{region_from, plan_from}
 use Rattle.flat_plan.proofs.Alike.{turned_map, blank_rows}

@@ -1,5 +1,5 @@
 -- The regions are turned, and the accounts' rows.
-use Rattle.std.proofs.Common.{rules, ◌≡◌, length}
+use Rattle.std.proofs.Common.{rules}
 use Rattle.flat.specs.Flat.{flat_row, flat_accounts}
 use Rattle.flat_plan.specs.Plan.{flat_region, flat_plan}
 use Rattle.flat_plan.proofs.Alike.{turned_map}
