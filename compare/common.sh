@@ -15,7 +15,7 @@ command -v rt >/dev/null 2>&1 || lacking "the Rattle kit is not at hand"
 
 cd "$root" || exit 2
 mkdir -p target/staticlib
-for name in exports plan_exports; do
+for name in exports fundravai plan_exports; do
   if ! log=$(cd "crates/$name" && rt lib 2>&1); then
     echo "$log"
     exit 2

@@ -1,4 +1,4 @@
-//! The Rattle functions of crates/exports and crates/plan_exports. No call asks anything of its caller,
+//! The Rattle functions of crates/exports, crates/fundravai and crates/plan_exports. No call asks anything of its caller,
 //! so each has a safe form.
 
 pub mod accounts;

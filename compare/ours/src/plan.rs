@@ -1,11 +1,12 @@
-//! The plan of crates/plan_exports, by value, with the lists that its holder lends to the calls.
+//! The library that recorders link, crates/fundravai, on one lent object; and crates/plan_exports, whose lists may have any
+//! length.
 
 use crate::accounts::Accounts;
 
 /// The most regions.
 pub const MOST: usize = 64;
 
-#[derive(Clone, Copy)]
+#[derive(Clone, Copy, PartialEq)]
 #[repr(C)]
 pub struct Region {
     pub number: u64,
@@ -29,7 +30,7 @@ pub struct Region {
     pub room: usize,
 }
 
-#[derive(Clone, Copy)]
+#[derive(Clone, Copy, PartialEq)]
 #[repr(C)]
 pub struct Plan {
     pub log2_block: u8,
@@ -42,7 +43,7 @@ pub struct Plan {
 }
 
 /// A record of open, and a region handed out. The header's numbers have an h in front.
-#[derive(Clone, Copy, Default)]
+#[derive(Clone, Copy, Debug, Default, PartialEq)]
 #[repr(C)]
 pub struct Record {
     pub number: u64,
@@ -67,10 +68,20 @@ pub struct Record {
     pub hcount: u16,
 }
 
+/// A plan and its lists, as the library is lent them.
+#[derive(Clone, PartialEq)]
 #[repr(C)]
-struct Records {
-    records: [Record; MOST],
+pub struct Container {
+    pub plan: Plan,
+    pub extents: [u64; 7680],
+    pub starts: [u64; 3840],
+    pub files: [u64; 3840],
 }
+
+/// As include/fundravai.h has them; the example in C asserts the same of its own.
+const _: () = assert!(size_of::<Region>() == 136 && size_of::<Record>() == 120);
+const _: () = assert!(size_of::<Plan>() == 12_600 && size_of::<Reply>() == 16);
+const _: () = assert!(size_of::<Container>() == 135_480);
 
 /// Done is 0, a byte 1 and the byte, a refusal 2 and its number.
 #[derive(Clone, Copy)]
@@ -88,25 +99,57 @@ struct Outcome {
 }
 
 #[repr(C)]
-struct Handed {
-    kind: u8,
-    value: u64,
-    filed: Record,
-}
-
-#[repr(C)]
 struct Each {
     accepted: u64,
+    last: Reply,
     plan: Plan,
 }
 
 unsafe extern "C" {
+    fn fundravai_open(
+        c: &mut Container,
+        log2_block: u8,
+        table_end: u64,
+        file_len: u64,
+        records: *const Record,
+        records_len: usize,
+        listed: *const u64,
+        listed_len: usize,
+        scratch: *mut u64,
+        scratch_len: usize,
+    ) -> Reply;
+    fn fundravai_create(
+        c: &mut Container,
+        id: u64,
+        tag: u32,
+        name: *const u8,
+        name_len: usize,
+    ) -> Reply;
+    safe fn fundravai_grow(c: &mut Container, id: u64) -> Reply;
+    safe fn fundravai_publish(c: &mut Container, id: u64, len: u64) -> Reply;
+    safe fn fundravai_drop(c: &mut Container, id: u64) -> Reply;
+    safe fn fundravai_cap(c: &mut Container, tag: u32, capped: bool, limit: u64) -> Reply;
+    safe fn fundravai_locate(c: &Container, id: u64, pos: u64, n: u64) -> Reply;
+    safe fn fundravai_held(c: &Container) -> u64;
+    safe fn fundravai_free(c: &Container) -> u64;
+    safe fn fundravai_logical(c: &Container, tag: u32) -> u64;
+    safe fn fundravai_physical(c: &Container, tag: u32) -> u64;
+    safe fn fundravai_last_number(c: &Container) -> u64;
+    safe fn fundravai_region_count(c: &Container) -> usize;
+    fn fundravai_region(
+        c: &Container,
+        i: usize,
+        record: &mut Record,
+        out: *mut u64,
+        out_len: usize,
+    ) -> Reply;
+
     fn fundravai_plan_open(
         log2_block: u8,
         table_end: u64,
         file_len: u64,
-        records: Records,
-        count: usize,
+        records: *const Record,
+        records_len: usize,
         listed: *const u64,
         listed_len: usize,
         scratch: *mut u64,
@@ -118,65 +161,6 @@ unsafe extern "C" {
         files: *mut u64,
         files_len: usize,
     ) -> Outcome;
-    fn fundravai_plan_create(
-        plan: Plan,
-        extents: *mut u64,
-        extents_len: usize,
-        starts: *mut u64,
-        starts_len: usize,
-        files: *mut u64,
-        files_len: usize,
-        id: u64,
-        tag: u32,
-        name: *const u8,
-        name_len: usize,
-    ) -> Outcome;
-    fn fundravai_plan_grow(
-        plan: Plan,
-        extents: *mut u64,
-        extents_len: usize,
-        starts: *mut u64,
-        starts_len: usize,
-        files: *mut u64,
-        files_len: usize,
-        id: u64,
-    ) -> Outcome;
-    fn fundravai_plan_drop(
-        plan: Plan,
-        extents: *mut u64,
-        extents_len: usize,
-        starts: *mut u64,
-        starts_len: usize,
-        files: *mut u64,
-        files_len: usize,
-        id: u64,
-    ) -> Outcome;
-    safe fn fundravai_plan_publish(plan: Plan, id: u64, len: u64) -> Outcome;
-    safe fn fundravai_plan_cap(plan: Plan, tag: u32, capped: bool, limit: u64) -> Outcome;
-    fn fundravai_plan_locate(
-        plan: Plan,
-        starts: *const u64,
-        starts_len: usize,
-        files: *const u64,
-        files_len: usize,
-        id: u64,
-        pos: u64,
-        n: u64,
-    ) -> Reply;
-    safe fn fundravai_plan_held(plan: Plan) -> u64;
-    safe fn fundravai_plan_free(plan: Plan) -> u64;
-    safe fn fundravai_plan_logical(plan: Plan, tag: u32) -> u64;
-    safe fn fundravai_plan_physical(plan: Plan, tag: u32) -> u64;
-    safe fn fundravai_plan_last_number(plan: Plan) -> u64;
-    safe fn fundravai_plan_region_count(plan: Plan) -> usize;
-    fn fundravai_plan_region(
-        plan: Plan,
-        i: usize,
-        extents: *const u64,
-        extents_len: usize,
-        out: *mut u64,
-        out_len: usize,
-    ) -> Handed;
     fn fundravai_plan_call_each(
         plan: Plan,
         extents: *mut u64,
@@ -218,33 +202,91 @@ pub struct Lists<'a> {
     pub files: &'a mut [u64],
 }
 
-/// The reply. The plan is the one that was handed back.
-fn handed(plan: &mut Plan, outcome: Outcome) -> Reply {
-    *plan = outcome.plan;
-    Reply {
-        kind: outcome.kind,
-        value: outcome.value,
-    }
-}
-
 /// What open is given, but for the lists.
 pub struct Opening<'a> {
     pub log2_block: u8,
     pub table_end: u64,
     pub file_len: u64,
-    pub records: [Record; MOST],
-    pub count: usize,
+    pub records: &'a [Record],
     pub listed: &'a [u64],
 }
 
-pub fn open(o: Opening, scratch: &mut [u64], l: Lists) -> (Reply, Box<Plan>) {
+pub fn open(c: &mut Container, o: Opening, scratch: &mut [u64]) -> Reply {
+    unsafe {
+        fundravai_open(
+            c,
+            o.log2_block,
+            o.table_end,
+            o.file_len,
+            o.records.as_ptr(),
+            o.records.len(),
+            o.listed.as_ptr(),
+            o.listed.len(),
+            scratch.as_mut_ptr(),
+            scratch.len(),
+        )
+    }
+}
+
+pub fn create(c: &mut Container, id: u64, tag: u32, name: &[u8]) -> Reply {
+    unsafe { fundravai_create(c, id, tag, name.as_ptr(), name.len()) }
+}
+
+pub fn grow(c: &mut Container, id: u64) -> Reply {
+    fundravai_grow(c, id)
+}
+
+pub fn drop(c: &mut Container, id: u64) -> Reply {
+    fundravai_drop(c, id)
+}
+
+pub fn publish(c: &mut Container, id: u64, len: u64) -> Reply {
+    fundravai_publish(c, id, len)
+}
+
+pub fn cap(c: &mut Container, tag: u32, max: Option<u64>) -> Reply {
+    fundravai_cap(c, tag, max.is_some(), max.unwrap_or(0))
+}
+
+pub fn locate(c: &Container, id: u64, pos: u64, n: u64) -> Reply {
+    fundravai_locate(c, id, pos, n)
+}
+
+pub fn held(c: &Container) -> u64 {
+    fundravai_held(c)
+}
+
+pub fn free(c: &Container) -> u64 {
+    fundravai_free(c)
+}
+
+/// Logical and physical.
+pub fn totals(c: &Container, tag: u32) -> (u64, u64) {
+    (fundravai_logical(c, tag), fundravai_physical(c, tag))
+}
+
+pub fn last_number(c: &Container) -> u64 {
+    fundravai_last_number(c)
+}
+
+pub fn region_count(c: &Container) -> usize {
+    fundravai_region_count(c)
+}
+
+/// The record of the region at place i goes to `record`, its extents to `out`.
+pub fn region(c: &Container, i: usize, record: &mut Record, out: &mut [u64]) -> Reply {
+    unsafe { fundravai_region(c, i, record, out.as_mut_ptr(), out.len()) }
+}
+
+/// Opens with lists of any length; the plan is handed back where it is accepted.
+pub fn open_with(o: Opening, scratch: &mut [u64], l: Lists, plan: &mut Plan) -> Reply {
     let outcome = unsafe {
         fundravai_plan_open(
             o.log2_block,
             o.table_end,
             o.file_len,
-            Records { records: o.records },
-            o.count,
+            o.records.as_ptr(),
+            o.records.len(),
             o.listed.as_ptr(),
             o.listed.len(),
             scratch.as_mut_ptr(),
@@ -257,125 +299,11 @@ pub fn open(o: Opening, scratch: &mut [u64], l: Lists) -> (Reply, Box<Plan>) {
             l.files.len(),
         )
     };
-    let mut plan = Box::new(outcome.plan);
-    (handed(&mut plan, outcome), plan)
-}
-
-pub fn create(plan: &mut Plan, l: Lists, id: u64, tag: u32, name: &[u8]) -> Reply {
-    let outcome = unsafe {
-        fundravai_plan_create(
-            *plan,
-            l.extents.as_mut_ptr(),
-            l.extents.len(),
-            l.starts.as_mut_ptr(),
-            l.starts.len(),
-            l.files.as_mut_ptr(),
-            l.files.len(),
-            id,
-            tag,
-            name.as_ptr(),
-            name.len(),
-        )
-    };
-    handed(plan, outcome)
-}
-
-pub fn grow(plan: &mut Plan, l: Lists, id: u64) -> Reply {
-    let outcome = unsafe {
-        fundravai_plan_grow(
-            *plan,
-            l.extents.as_mut_ptr(),
-            l.extents.len(),
-            l.starts.as_mut_ptr(),
-            l.starts.len(),
-            l.files.as_mut_ptr(),
-            l.files.len(),
-            id,
-        )
-    };
-    handed(plan, outcome)
-}
-
-pub fn drop(plan: &mut Plan, l: Lists, id: u64) -> Reply {
-    let outcome = unsafe {
-        fundravai_plan_drop(
-            *plan,
-            l.extents.as_mut_ptr(),
-            l.extents.len(),
-            l.starts.as_mut_ptr(),
-            l.starts.len(),
-            l.files.as_mut_ptr(),
-            l.files.len(),
-            id,
-        )
-    };
-    handed(plan, outcome)
-}
-
-pub fn publish(plan: &mut Plan, id: u64, len: u64) -> Reply {
-    let outcome = fundravai_plan_publish(*plan, id, len);
-    handed(plan, outcome)
-}
-
-pub fn cap(plan: &mut Plan, tag: u32, max: Option<u64>) -> Reply {
-    let outcome = fundravai_plan_cap(*plan, tag, max.is_some(), max.unwrap_or(0));
-    handed(plan, outcome)
-}
-
-pub fn locate(plan: &Plan, starts: &[u64], files: &[u64], id: u64, pos: u64, n: u64) -> Reply {
-    unsafe {
-        fundravai_plan_locate(
-            *plan,
-            starts.as_ptr(),
-            starts.len(),
-            files.as_ptr(),
-            files.len(),
-            id,
-            pos,
-            n,
-        )
+    let Outcome { kind, value, .. } = outcome;
+    if kind != 2 {
+        *plan = outcome.plan;
     }
-}
-
-pub fn held(plan: &Plan) -> u64 {
-    fundravai_plan_held(*plan)
-}
-
-pub fn free(plan: &Plan) -> u64 {
-    fundravai_plan_free(*plan)
-}
-
-/// Logical and physical.
-pub fn totals(plan: &Plan, tag: u32) -> (u64, u64) {
-    let logical = fundravai_plan_logical(*plan, tag);
-    (logical, fundravai_plan_physical(*plan, tag))
-}
-
-pub fn last_number(plan: &Plan) -> u64 {
-    fundravai_plan_last_number(*plan)
-}
-
-pub fn region_count(plan: &Plan) -> usize {
-    fundravai_plan_region_count(*plan)
-}
-
-/// The record of the region at place i. Its extents go to `out`.
-pub fn region(plan: &Plan, i: usize, extents: &[u64], out: &mut [u64]) -> (Reply, Record) {
-    let handed = unsafe {
-        fundravai_plan_region(
-            *plan,
-            i,
-            extents.as_ptr(),
-            extents.len(),
-            out.as_mut_ptr(),
-            out.len(),
-        )
-    };
-    let reply = Reply {
-        kind: handed.kind,
-        value: handed.value,
-    };
-    (reply, handed.filed)
+    Reply { kind, value }
 }
 
 /// Calls in numbers: 0 is create, 1 grow, 2 publish, and 3 drop. A list for their codes, one for the
@@ -390,8 +318,9 @@ pub struct Calls<'a> {
     pub name: &'a [u8],
 }
 
-/// Makes each call on the plan as the last one left it; answers how many were accepted.
-pub fn call_each(plan: &mut Plan, l: Lists, c: Calls) -> u64 {
+/// Makes each call on the plan as the last one left it; answers how many were accepted, and what the last
+/// one answered.
+pub fn call_each(plan: &mut Plan, l: Lists, c: Calls) -> (u64, Reply) {
     let each = unsafe {
         fundravai_plan_call_each(
             *plan,
@@ -413,7 +342,7 @@ pub fn call_each(plan: &mut Plan, l: Lists, c: Calls) -> u64 {
         )
     };
     *plan = each.plan;
-    each.accepted
+    (each.accepted, each.last)
 }
 
 /// The positions to be located, each of a region.

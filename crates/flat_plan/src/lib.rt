@@ -1,6 +1,8 @@
 // A plan as flat numbers, and a plan from them.
 #![tactic(auto)]
 
+mod lent;
+mod opening;
 mod record;
 mod region;
 
@@ -9,8 +11,9 @@ ghost use Rattle.flat_plan.specs.Plan.{plan_from, flat_plan, flat_reply, flat_ou
 
 use flat::FlatAccounting;
 use footprint::Limits;
+pub use opening::open;
 use plan_record::{Outcome, Plan, Region, Reply};
-pub use record::{FlatRecord, records_from};
+pub use record::FlatRecord;
 pub use region::FlatRegion;
 
 #[repr(C)]

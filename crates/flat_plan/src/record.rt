@@ -1,7 +1,8 @@
 // A record of open as flat numbers. Those of the header have an h in front.
-ghost use Rattle.std.specs.Prelude.{◌≡◌};
+ghost use Rattle.std.specs.Prelude.{◌≡◌, ◌≤◌, length, take};
 ghost use Rattle.flat_plan.specs.Record.{record_from, records_from, flat_record};
 
+use crate::lent::turn;
 use flat::kind_of;
 use footprint::{Entry, Header};
 use plan_record::Record;
@@ -66,11 +67,13 @@ impl From<FlatRecord> for Record {
     }
 }
 
-// No `From`, since an array is of no crate.
-pub fn records_from(flat: [FlatRecord; 64]) -> [Record; 64]
-    ensures { result ≡ records_from flat }
+// Up to 64 records, as many as open takes; those behind them are blank.
+pub(crate) fn records_from(flat: &[FlatRecord]) -> [Record; 64]
+    ensures { length flat.now ≤ 64 → take (length flat.now) result ≡ records_from flat.now }
 {
-    flat.map(Record::from)
+    let mut records = [Record::blank(); 64];
+    turn(flat, &mut records);
+    records
 }
 
 impl From<Record> for FlatRecord {

@@ -1,3 +1,2 @@
 pub mod Chaining
 pub mod Coding
-pub mod Bringing

@@ -1,6 +1,6 @@
 -- Calls one after another, each with the promise of the single call: what the loops for the benchmark do.
 use Rattle.plan_record.specs.Plan.{Reply}
-use Rattle.std.specs.Prelude.{ℕ, ◌+◌, Bool, true, false, ◌||◌, cond, List, [], ◌∷◌, ◌≡◌, ltb, eqb, length, get_or, set, drop, is_ok}
+use Rattle.std.specs.Prelude.{ℕ, ◌+◌, Bool, true, false, ◌||◌, cond, List, [], ◌∷◌, ◌≡◌, ltb, eqb, length, get_or, set, drop, is_ok, Ok, None}
 use Rattle.flat.specs.Chain.{Chain}
 use Rattle.flat_plan.specs.Plan.{plan_from, flat_plan, flat_reply}
 use Rattle.flat_plan.specs.declared.FlatPlan.{FlatPlan}
@@ -39,16 +39,17 @@ pub record Calls (code id number tag : ℕ) (name : List ℕ) (p : Plan) (xs₀ 
   pub published : eqb code 2 ≡ true → Changes p (model.publish id number) r × (xs ≡ xs₀) × (ss ≡ ss₀) × (fs ≡ fs₀)
   pub dropped : (eqb code 0 || eqb code 1 || eqb code 2) ≡ false → Leaves p (model.drop id) xs₀ ss₀ fs₀ xs ss fs r
 
--- A plan with its lists, and how many calls were accepted.
+-- A plan with its lists, how many calls were accepted, and what the last one answered.
 pub record Calling : Type 0 where
   pub plan : Plan
   pub extents : List ℕ
   pub starts : List ℕ
   pub files : List ℕ
   pub accepted : ℕ
+  pub last : Reply
 
-abbrev pub calling : Plan → (xs ss fs : List ℕ) → ℕ → Calling
-calling p xs ss fs k = record { plan = p; extents = xs; starts = ss; files = fs; accepted = k }
+abbrev pub calling : Plan → (xs ss fs : List ℕ) → ℕ → Reply → Calling
+calling p xs ss fs k r = record { plan = p; extents = xs; starts = ss; files = fs; accepted = k; last = r }
 
 -- One call, on the plan and the lists that the last one left.
 pub record Called (tag : ℕ) (name : List ℕ) (x : Coded) (s t : Calling) : Type 0 where
@@ -56,16 +57,17 @@ pub record Called (tag : ℕ) (name : List ℕ) (x : Coded) (s t : Calling) : Ty
   pub promise : Calls x.code x.id x.number tag name s.plan s.extents s.starts s.files t.extents t.starts t.files outcome
   pub plan : t.plan ≡ outcome.plan
   pub count : t.accepted ≡ s.accepted + cond (is_ok outcome.reply) 1 0
+  pub last : t.last ≡ outcome.reply
 
 -- None is made where there are fewer regions or numbers than codes.
 abbrev pub too_few : (cs is ns : List ℕ) → Bool
 too_few cs is ns = ltb (length is) (length cs) || ltb (length ns) (length cs)
 
 pub record CallsEach (tag : ℕ) (name cs is ns : List ℕ) (flat : FlatPlan) (xs₀ ss₀ fs₀ xs ss fs : List ℕ) (r : FlatEach) : Type 0 where
-  pub short : too_few cs is ns ≡ true → (r ≡ record { accepted = 0; plan = flat }) × (xs ≡ xs₀) × (ss ≡ ss₀) × (fs ≡ fs₀)
+  pub short : too_few cs is ns ≡ true → (r ≡ record { accepted = 0; last = flat_reply (Ok None); plan = flat }) × (xs ≡ xs₀) × (ss ≡ ss₀) × (fs ≡ fs₀)
   pub each : too_few cs is ns ≡ false
-      → (p : Plan) × Chain (Called tag name) (codeds cs is ns) (calling (plan_from flat) xs₀ ss₀ fs₀ 0) (calling p xs ss fs r.accepted)
-      × (r.plan ≡ flat_plan p)
+      → (p : Plan) × (a : Reply) × Chain (Called tag name) (codeds cs is ns) (calling (plan_from flat) xs₀ ss₀ fs₀ 0 (Ok None)) (calling p xs ss fs r.accepted a)
+      × (r.plan ≡ flat_plan p) × (r.last ≡ flat_reply a)
 
 -- ---- locate
 

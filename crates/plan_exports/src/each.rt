@@ -6,11 +6,12 @@ ghost use Rattle.plan_exports.specs.Each.{Calls, CallsEach, LocatesEach};
 use flat_plan::{FlatPlan, FlatReply};
 use plan_record::{Plan, Reply};
 
-// How many calls were accepted, and the plan as the last one left it.
+// How many calls were accepted, what the last one answered, and the plan as it left it.
 #[repr(C)]
 #[derive(Clone, Copy)]
 pub struct FlatEach {
     pub accepted: u64,
+    pub last: FlatReply,
     pub plan: FlatPlan,
 }
 
@@ -58,19 +59,23 @@ pub extern "C" fn fundravai_plan_call_each(
     if ids.len() < codes.len() || numbers.len() < codes.len() {
         return FlatEach {
             accepted: 0,
+            last: Reply::Ok(None).into(),
             plan: flat,
         };
     }
     let mut plan = Plan::from(flat);
     let mut accepted = 0;
+    let mut last = Reply::Ok(None);
     for (i, &code) in codes.iter().enumerate() {
         let reply = call(
             &mut plan, extents, starts, files, code, ids[i], numbers[i], tag, name,
         );
         accepted += reply.is_ok() as u64;
+        last = reply;
     }
     FlatEach {
         accepted,
+        last: last.into(),
         plan: plan.into(),
     }
 }

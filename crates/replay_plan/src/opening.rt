@@ -4,7 +4,7 @@
 // and 24 bytes for the name.
 use crate::figures;
 use crate::state::State;
-use flat_plan::{FlatRecord, records_from};
+use flat_plan::FlatRecord;
 use footprint::Limits;
 use plan_open::Opening;
 use plan_record::{Outcome, Record};
@@ -99,7 +99,7 @@ fn answered(
 
 fn records_in(numbers: &[u64]) -> [Record; 64] {
     let each = numbers.as_chunks::<43>().0;
-    records_from(array::from_fn(|i| record_in(each.get(i).unwrap_or(&[0; 43]))))
+    array::from_fn(|i| record_in(each.get(i).unwrap_or(&[0; 43])).into())
 }
 
 // The record that the numbers say.

@@ -1,5 +1,5 @@
-//! The plan's times, a column for each side. A single call of ours goes over the border: its plan is
-//! turned from flat numbers and back. Calls one after another go over it once.
+//! The plan's times, a column for each side. A single call of ours is the library's: its plan is turned from
+//! flat numbers, and back where it is accepted. Calls one after another have it turned once.
 
 use super::call::{APPEND, Call, EXTENTS, Entry, Header, Name, Opening, Places, REGIONS, Record};
 use super::many::Many;
@@ -277,8 +277,8 @@ fn regions(n: usize, random: &mut Random) {
     });
 }
 
-/// A copy of the accounts as flat numbers: `grow` makes two, no other call copies so much. By the border a
-/// plan is copied, too.
+/// A copy of the accounts as flat numbers: `grow` makes two, no other call copies so much. A plan's copy stands
+/// beside what it takes to turn one.
 fn copied() {
     for (whose, bytes) in [
         ("accounts", size_of::<ours::accounts::Accounts>()),
@@ -305,12 +305,12 @@ fn copy(whose: &str, bytes: usize) {
 /// What a call of ours costs that does nothing else.
 fn border() {
     let full = opening(&[EXTENTS; REGIONS]);
-    row("last number: a plan goes over", |make| {
+    row("last number: a plan is turned", |make| {
         one(&mut *opened(make, &full), 20, |side, _| {
             black_box(side.last_number());
         })
     });
-    row("publish of an unknown region: there and back", |make| {
+    row("publish of an unknown region, refused", |make| {
         one(&mut *opened(make, &full), 20, |side, _| {
             assert!(!side.publish(black_box(1 << 40), 0).accepted());
         })

@@ -1,15 +1,15 @@
-//! Our plan: the Rattle functions, with lists that are longer than the calls need. `locate` is lent the
-//! starts and the file offsets alone.
+//! Our plan: the library that recorders link, on an object between guard slots. It is lent whole; lists of
+//! another length are lent to the calls of crates/plan_exports.
 
 use super::call::{Answer, EXTENTS, Entry, Header, Name, Opening, Places, REGIONS, Range, Record};
 use super::many::Many;
 use super::side::Side;
 use crate::flat::pairs;
 use crate::lent::Lent;
-use ours::plan::{self, Calls, Lists, Plan, Positions, Reply};
+use ours::plan::{self, Calls, Container, Lists, Plan, Positions, Reply};
 
-/// How many numbers stand behind the 64 rows of each list; more if a call is lent more.
-const BEHIND: usize = 8;
+/// How many numbers stand in front of the object and behind it.
+const AROUND: usize = 8;
 
 /// What the lists hold before a call writes to them.
 fn filling(i: usize) -> u64 {
@@ -19,7 +19,35 @@ fn filling(i: usize) -> u64 {
 /// Extents, starts and file offsets.
 type Slots = [Vec<u64>; 3];
 
-const ROWS: [usize; 3] = [Places::ALL.extents, Places::ALL.starts, Places::ALL.files];
+#[derive(Clone, PartialEq)]
+#[repr(C)]
+struct Guarded {
+    front: [u64; AROUND],
+    container: Container,
+    behind: [u64; AROUND],
+}
+
+impl Guarded {
+    fn new() -> Box<Self> {
+        // Numbers and a bool that is false.
+        let plan: Plan = unsafe { std::mem::zeroed() };
+        Box::new(Self {
+            front: [filling(1); AROUND],
+            container: Container {
+                plan,
+                extents: std::array::from_fn(filling),
+                starts: std::array::from_fn(filling),
+                files: std::array::from_fn(filling),
+            },
+            behind: [filling(2); AROUND],
+        })
+    }
+
+    fn lists(&self) -> [&[u64]; 3] {
+        let c = &self.container;
+        [&c.extents, &c.starts, &c.files]
+    }
+}
 
 /// What a call may write.
 #[derive(Clone, Copy, PartialEq)]
@@ -31,10 +59,10 @@ enum Writes {
 }
 
 pub struct Ours {
-    plan: Option<Box<Plan>>,
-    lists: Slots,
-    /// The lists as they were before the last call, unless it is only timed.
-    before: Option<Slots>,
+    opened: bool,
+    held: Box<Guarded>,
+    /// The object as it was before the last call, unless it is only timed.
+    before: Option<Box<Guarded>>,
     trespass: Option<String>,
 }
 
@@ -104,15 +132,6 @@ fn record(r: &plan::Record) -> Record {
     }
 }
 
-fn lend(lists: &mut Slots, lent: Places) -> Lists<'_> {
-    let [extents, starts, files] = lists;
-    Lists {
-        extents: &mut extents[..lent.extents],
-        starts: &mut starts[..lent.starts],
-        files: &mut files[..lent.files],
-    }
-}
-
 /// The places of a list that have changed: pairs of the extents.
 fn changed(list: usize, before: &[u64], after: &[u64]) -> Vec<usize> {
     let width = [2, 1, 1][list];
@@ -121,14 +140,37 @@ fn changed(list: usize, before: &[u64], after: &[u64]) -> Vec<usize> {
     changed.map(|(i, _)| i).collect()
 }
 
+/// What a call changed of the lists that it must not.
+fn trespassed(old: [&[u64]; 3], new: [&[u64]; 3], writes: Writes) -> Option<String> {
+    for (k, (old, new)) in old.into_iter().zip(new).enumerate() {
+        if old == new {
+            continue;
+        }
+        let places = changed(k, old, new);
+        let most = [0, 1, REGIONS * EXTENTS][writes as usize];
+        let behind = places.iter().any(|p| *p >= REGIONS * EXTENTS);
+        if places.len() > most || behind {
+            let list = ["extents", "starts", "files"][k];
+            let (n, first) = (places.len(), places[0]);
+            return Some(format!("{n} places of the {list}, the first {first}"));
+        }
+    }
+    None
+}
+
+fn slices(lists: &Slots) -> [&[u64]; 3] {
+    let [extents, starts, files] = lists;
+    [extents, starts, files]
+}
+
 impl Ours {
     /// What the calls write is looked at after each.
     pub fn new() -> Self {
-        let lists = ROWS.map(|n| (0..n + BEHIND).map(filling).collect());
+        let held = Guarded::new();
         Self {
-            plan: None,
-            before: Some(Slots::clone(&lists)),
-            lists,
+            opened: false,
+            before: Some(held.clone()),
+            held,
             trespass: None,
         }
     }
@@ -141,93 +183,129 @@ impl Ours {
         }
     }
 
-    fn plan(&self) -> &Plan {
-        self.plan.as_ref().expect("it is opened")
+    fn container(&self) -> &Container {
+        assert!(self.opened, "it is opened");
+        &self.held.container
+    }
+
+    fn container_mut(&mut self) -> &mut Container {
+        assert!(self.opened, "it is opened");
+        &mut self.held.container
     }
 
     pub fn same_lists(&self, other: &Self) -> bool {
-        self.lists == other.lists
+        self.held.lists() == other.held.lists()
     }
 
-    /// The lists have so many numbers at least.
-    fn make_room(&mut self, lent: Places) {
-        let lent = [lent.extents, lent.starts, lent.files];
-        for (k, n) in lent.into_iter().enumerate() {
-            for list in [Some(&mut self.lists), self.before.as_mut()] {
-                let Some(list) = list else { continue };
-                let have = list[k].len();
-                list[k].extend((have..n).map(filling));
-            }
-        }
-    }
-
-    /// Notes what a call wrote that it must not.
+    /// Notes what a call wrote that it must not: a refused one any number of the object.
     fn look(&mut self, name: &str, answer: Answer, writes: Writes) -> Answer {
         let Some(before) = &mut self.before else {
             return answer;
         };
+        if *before == self.held {
+            return answer;
+        }
+        let refused = matches!(answer, Answer::Refused(_));
+        let around = before.front != self.held.front || before.behind != self.held.behind;
+        let wrote = match (refused, around) {
+            (true, _) => Some(String::from("the object")),
+            (_, true) => Some(String::from("what stands around the object")),
+            _ => trespassed(before.lists(), self.held.lists(), writes),
+        };
+        if let Some(what) = wrote {
+            self.trespass = Some(format!("{name}, answered {answer:?}, changes {what}"));
+        }
+        before.clone_from(&self.held);
+        answer
+    }
+
+    /// The lists with so many numbers each.
+    fn lists(&self, lent: Places) -> Slots {
+        let lent = [lent.extents, lent.starts, lent.files];
+        let mut lists = self.held.lists().map(Vec::from);
+        for (list, n) in lists.iter_mut().zip(lent) {
+            let have = list.len();
+            list.truncate(n);
+            list.extend((have..n).map(filling));
+        }
+        lists
+    }
+
+    /// What a call left of such lists.
+    fn keep(&mut self, name: &str, answer: Answer, writes: Writes, [old, new]: [Slots; 2]) {
         let writes = match answer {
             Answer::Refused(_) => Writes::Nothing,
             Answer::At(_) | Answer::Done => writes,
         };
-        for (k, (old, new)) in before.iter_mut().zip(&self.lists).enumerate() {
-            if old == new {
-                continue;
-            }
-            let places = changed(k, old, new);
-            let most = [0, 1, REGIONS * EXTENTS][writes as usize];
-            let behind = places.iter().any(|p| *p >= REGIONS * EXTENTS);
-            if places.len() > most || behind {
-                let list = ["extents", "starts", "files"][k];
-                let first = places[0];
-                self.trespass = Some(format!(
-                    "{name}, answered {answer:?}, changes {} places of the {list}, the first {first}",
-                    places.len()
-                ));
-            }
-            old.clone_from(new);
+        if let Some(what) = trespassed(slices(&old), slices(&new), writes) {
+            self.trespass = Some(format!("{name}, answered {answer:?}, changes {what}"));
         }
-        answer
+        let c = &mut self.held.container;
+        let lists: [&mut [u64]; 3] = [&mut c.extents, &mut c.starts, &mut c.files];
+        for (list, new) in lists.into_iter().zip(new) {
+            let n = list.len().min(new.len());
+            list[..n].copy_from_slice(&new[..n]);
+        }
     }
 
-    /// A call on the plan with its lists.
+    /// A call by its code with lists of another length.
     fn with_lists(
         &mut self,
-        name: &str,
+        (name, code): (&str, u64),
         lent: Places,
         writes: Writes,
-        call: impl FnOnce(&mut Plan, Lists) -> Reply,
+        (id, tag, text): (u64, u32, &[u8]),
     ) -> Answer {
-        self.make_room(lent);
-        let plan = self.plan.as_mut().expect("it is opened");
-        let reply = call(plan, lend(&mut self.lists, lent));
-        self.look(name, answer(reply), writes)
+        let old = self.lists(lent);
+        let mut new = old.clone();
+        let calls = Calls {
+            codes: &[code],
+            ids: &[id],
+            numbers: &[0],
+            tag,
+            name: text,
+        };
+        let (accepted, last) =
+            plan::call_each(&mut self.container_mut().plan, lend(&mut new), calls);
+        let answer = answer(last);
+        assert_eq!(accepted == 1, answer.accepted());
+        self.keep(name, answer, writes, [old, new]);
+        answer
+    }
+}
+
+fn lend(lists: &mut Slots) -> Lists<'_> {
+    let [extents, starts, files] = lists;
+    Lists {
+        extents,
+        starts,
+        files,
     }
 }
 
 impl Side for Ours {
     fn open(&mut self, opening: &Opening) -> Answer {
-        self.make_room(opening.lent);
-        let mut records = [plan::Record::default(); REGIONS];
-        for (place, r) in records.iter_mut().zip(&opening.records) {
-            *place = flat(r);
-        }
+        let records: Vec<plan::Record> = opening.records.iter().map(flat).collect();
         let limits = &opening.limits;
         let mut scratch = Lent::new(&vec![7; opening.scratch]);
         let given = plan::Opening {
             log2_block: limits.log2_block,
             table_end: limits.table_end,
             file_len: limits.file_len,
-            records,
-            count: opening.records.len(),
+            records: &records,
             listed: &opening.extents,
         };
-        let lists = lend(&mut self.lists, opening.lent);
-        let (reply, plan) = plan::open(given, scratch.list(), lists);
-        let answer = answer(reply);
-        if answer.accepted() {
-            self.plan = Some(plan);
-        }
+        let answer = if opening.lent == Places::ALL {
+            answer(plan::open(&mut self.held.container, given, scratch.list()))
+        } else {
+            let old = self.lists(opening.lent);
+            let mut new = old.clone();
+            let plan = &mut self.held.container.plan;
+            let answer = answer(plan::open_with(given, scratch.list(), lend(&mut new), plan));
+            self.keep("open", answer, Writes::Rows, [old, new]);
+            answer
+        };
+        self.opened |= answer.accepted();
         if scratch.back().len() != opening.scratch {
             self.trespass = Some(String::from("open writes outside its scratch"));
         }
@@ -235,73 +313,94 @@ impl Side for Ours {
     }
 
     fn create(&mut self, id: u64, tag: u32, name: &[u8], lent: Places) -> Answer {
-        self.with_lists("create", lent, Writes::Nothing, |plan, lists| {
-            plan::create(plan, lists, id, tag, name)
-        })
+        let answer = if lent == Places::ALL {
+            answer(plan::create(self.container_mut(), id, tag, name))
+        } else {
+            self.with_lists(("create", 0), lent, Writes::Nothing, (id, tag, name))
+        };
+        self.look("create", answer, Writes::Nothing)
     }
 
     fn grow(&mut self, id: u64, lent: Places) -> Answer {
-        self.with_lists("grow", lent, Writes::Place, |plan, lists| {
-            plan::grow(plan, lists, id)
-        })
+        let answer = if lent == Places::ALL {
+            answer(plan::grow(self.container_mut(), id))
+        } else {
+            self.with_lists(("grow", 1), lent, Writes::Place, (id, 0, b""))
+        };
+        self.look("grow", answer, Writes::Place)
     }
 
     fn publish(&mut self, id: u64, len: u64) -> Answer {
-        answer(plan::publish(
-            self.plan.as_mut().expect("it is opened"),
-            id,
-            len,
-        ))
+        let answer = answer(plan::publish(self.container_mut(), id, len));
+        self.look("publish", answer, Writes::Nothing)
     }
 
     fn drop(&mut self, id: u64, lent: Places) -> Answer {
-        self.with_lists("drop", lent, Writes::Nothing, |plan, lists| {
-            plan::drop(plan, lists, id)
-        })
+        let answer = if lent == Places::ALL {
+            answer(plan::drop(self.container_mut(), id))
+        } else {
+            self.with_lists(("drop", 3), lent, Writes::Nothing, (id, 0, b""))
+        };
+        self.look("drop", answer, Writes::Nothing)
     }
 
     fn cap(&mut self, tag: u32, max: Option<u64>) -> Answer {
-        answer(plan::cap(
-            self.plan.as_mut().expect("it is opened"),
-            tag,
-            max,
-        ))
+        let answer = answer(plan::cap(self.container_mut(), tag, max));
+        self.look("cap", answer, Writes::Nothing)
     }
 
     fn locate(&mut self, id: u64, pos: u64, n: u64, lent: Places) -> Answer {
-        self.make_room(lent);
-        let [_, starts, files] = &self.lists;
-        let (starts, files) = (&starts[..lent.starts], &files[..lent.files]);
-        answer(plan::locate(self.plan(), starts, files, id, pos, n))
+        if lent == Places::ALL {
+            return answer(plan::locate(self.container(), id, pos, n));
+        }
+        let [_, starts, files] = self.lists(lent);
+        let one = Positions {
+            ids: &[id],
+            positions: &[pos],
+        };
+        let mut told = [0];
+        let plan = &self.container().plan;
+        match plan::locate_each(plan, (&starts, &files), one, n, &mut told) {
+            1 => Answer::At(told[0]),
+            _ => Answer::Refused(told[0]),
+        }
     }
 
     fn held(&self) -> u64 {
-        plan::held(self.plan())
+        plan::held(self.container())
     }
 
     fn free(&self) -> u64 {
-        plan::free(self.plan())
+        plan::free(self.container())
     }
 
     fn totals(&self, tag: u32) -> (u64, u64) {
-        plan::totals(self.plan(), tag)
+        plan::totals(self.container(), tag)
     }
 
     fn last_number(&self) -> u64 {
-        plan::last_number(self.plan())
+        plan::last_number(self.container())
     }
 
     fn count(&self) -> usize {
-        plan::region_count(self.plan())
+        plan::region_count(self.container())
     }
 
     fn region(&self, i: usize) -> (Record, Vec<Range>) {
         let mut out = Lent::new(&[7; 2 * EXTENTS]);
-        let (reply, filed) = plan::region(self.plan(), i, &self.lists[0], out.list());
+        let mut filed = plan::Record::default();
+        let reply = plan::region(self.container(), i, &mut filed, out.list());
         assert_eq!(answer(reply), Answer::Done);
         let out = out.back();
         let n = 2 * usize::from(filed.extent_count);
         assert!(out.len() == 2 * EXTENTS && out[n..].iter().all(|x| *x == 7));
+        if n > 0 {
+            // One place too few.
+            let (mut other, mut few) = (plan::Record::default(), vec![7; n - 2]);
+            let reply = plan::region(self.container(), i, &mut other, &mut few);
+            assert_eq!(answer(reply), Answer::Refused(1));
+            assert!(other == plan::Record::default() && few.iter().all(|x| *x == 7));
+        }
         (record(&filed), pairs(&out[..n]))
     }
 
@@ -310,15 +409,14 @@ impl Side for Ours {
     }
 
     fn many(&mut self, many: &Many) -> u64 {
-        let plan = self.plan.as_mut().expect("it is opened");
+        let c = self.container_mut();
         if many.locates {
             let positions = Positions {
                 ids: &many.ids,
                 positions: &many.numbers,
             };
             let mut bytes = vec![0; many.ids.len()];
-            let [_, starts, files] = &self.lists;
-            return plan::locate_each(plan, (starts, files), positions, 1, &mut bytes);
+            return plan::locate_each(&c.plan, (&c.starts, &c.files), positions, 1, &mut bytes);
         }
         let calls = Calls {
             codes: &many.codes,
@@ -327,6 +425,11 @@ impl Side for Ours {
             tag: many.tag,
             name: &many.name,
         };
-        plan::call_each(plan, lend(&mut self.lists, Places::ALL), calls)
+        let lists = Lists {
+            extents: &mut c.extents,
+            starts: &mut c.starts,
+            files: &mut c.files,
+        };
+        plan::call_each(&mut c.plan, lists, calls).0
     }
 }
