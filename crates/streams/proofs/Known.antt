@@ -86,10 +86,10 @@ sent_then a b c x y w s =
 -- What follows a text that was not written whole is not written.
 pub sent_short : {T E U F : Type 0} (a b : Option (List ℕ)) (x z : List ℕ) (e : E) (d : F) → Sent {T = T} {E = E} a b x (Err e) → Sent {T = U} {E = F} a b (x ++ z) (Err d)
 sent_short a b x z e d s =
-    record { sent = s.sent; rest = s.rest ++ z; parts = ap (λ l. l ++ z) s.parts ∙ append_assoc s.sent s.rest z; wrote = s.wrote; whole = tt; }
+    record { sent = s.sent; rest = s.rest ++ z; parts = ap (λ l. l ++ z) s.parts ∙ append_assoc s.sent s.rest z; wrote = s.wrote; whole = tt }
 
 pub sent_front : {T E : Type 0} (a b : Option (List ℕ)) (x z : List ℕ) (e : E) → Appends a b x → Sent {T = T} {E = E} a b (x ++ z) (Err e)
-sent_front a b x z e w = record { sent = x; rest = z; parts = refl; wrote = w; whole = tt; }
+sent_front a b x z e w = record { sent = x; rest = z; parts = refl; wrote = w; whole = tt }
 
 -- A text that was sent is written.
 pub sent_whole : {T E : Type 0} (a b : Option (List ℕ)) (x : List ℕ) (v : T) → Sent {T = T} {E = E} a b x (Ok v) → Appends a b x
