@@ -1,5 +1,5 @@
 -- What is read is what document 01's grammar says: `command_in` reads a line that is a command's (`taken`), and no other (`reads`).
-use Rattle.std.proofs.Common.{◌≡◌, ℕ, ◌+◌, ◌^◌, ◌≤◌, ◌<◌, Bool, true, false, List, [], ◌∷◌, ◌++◌, ◌⊎◌, inl, inr, ⊎_elim, length, take, drop, refl, sym, ap, ◌∙◌, arith, eqb, leb, cond, not, ◌||◌, ◌&&◌, Option, None, Some, append_assoc, subst, codes, le-leb}
+use Rattle.std.proofs.Common.{◌≡◌, ℕ, ◌+◌, ◌^◌, ◌≤◌, ◌<◌, Bool, true, false, List, [], ◌∷◌, ◌++◌, ◌⊎◌, inl, inr, ⊎_elim, length, take, drop, refl, sym, ap, ◌∙◌, arith, eqb, leb, cond, not, ◌||◌, ◌&&◌, Option, None, Some, append_assoc, subst, codes, le-leb, length-append}
 use borrow.Author.Tests.{leb-true, eq-eqb, not-true, ne_eqb}
 use Rattle.line.proofs.Digits.{Digits, own, kept}
 use Rattle.line.proofs.Fields.{bound, behind_takes, behind_again, field_takes, field_again, one_then, two_then, last_takes, last_again, field_then, last_then}
@@ -9,7 +9,8 @@ use Rattle.model.specs.Calls as model
 use Rattle.numbers.proofs.Cases.{cases, clash, and-true, or-false, none_some, same_some}
 use Rattle.numbers.proofs.Lists.{all_imp, any_false, of_none, same_true, true_same}
 use Rattle.numbers.specs.Lists.{All, any, same}
-use Rattle.std.proofs.lemmas.Fmt.{digits_decimal}
+use Rattle.line.proofs.Writing.{few_digits}
+use Rattle.std.proofs.lemmas.Fmt.{digits_decimal, length-decimal-le}
 use Rattle.std.specs.Fmt.{decimal}
 use Rattle.std.specs.Option.{option_or}
 
@@ -222,3 +223,38 @@ named_again (calling (model.locate id pos n)) f = rw (locate_again id pos n f.0 
 pub taken : (line : List ℕ) (c : Command) → Says line c → command_in line ≡ Some c
 unfolding command_in
 taken line c s = subst (λ l. command_in l ≡ Some c) (sym s.text) (rw (le-leb _ _ (subst (λ l. length l ≤ 128) s.text s.short)) (named_again c s.fits))
+
+-- ---- lengths
+
+limit_short : (m : Option ℕ) → LimitFits m → length (limit_text m) ≤ 20
+limit_short None f = omega arith
+limit_short (Some n) f = few_digits n f
+
+-- No command's line comes near 128 bytes: the longest has 83. So that bound turns down no line that the grammar takes.
+pub short_line : (c : Command) → Fits c → length (line_of c) ≤ 83
+short_line (opening lim) f =
+    let a = few_digits lim.table_end f.0 in
+    let b = few_digits lim.file_len f.1 in
+    let d = length-decimal-le 3 lim.log2_block (omega arith) (let h = f.2 in omega (arith, h)) (let h = f.2 in omega (arith, h)) in
+    simp length-append (omega (arith, a, b, d))
+short_line (calling (model.create id tag name)) f =
+    let a = few_digits id f.0 in
+    let b = length-decimal-le 10 tag (omega arith) (let h = f.1 in omega (arith, h)) (let h = f.1 in omega (arith, h)) in
+    let d = f.2 in
+    simp length-append (omega (arith, a, b, d))
+short_line (calling (model.grow id)) f = let a = few_digits id f in simp length-append (omega (arith, a))
+short_line (calling (model.publish id len)) f = let a = few_digits id f.0 in let b = few_digits len f.1 in simp length-append (omega (arith, a, b))
+short_line (calling (model.drop id)) f = let a = few_digits id f in simp length-append (omega (arith, a))
+short_line (calling (model.cap tag limit)) f =
+    let a = length-decimal-le 10 tag (omega arith) (let h = f.0 in omega (arith, h)) (let h = f.0 in omega (arith, h)) in
+    let b = limit_short limit f.1 in
+    simp length-append (omega (arith, a, b))
+short_line (calling (model.locate id pos n)) f =
+    let a = few_digits id f.0 in
+    let b = few_digits pos f.1 in
+    let d = few_digits n f.2 in
+    simp length-append (omega (arith, a, b, d))
+
+-- So the line of every command that fits is one that it says.
+pub said_by : (c : Command) → Fits c → Says (line_of c) c
+said_by c f = record { text = refl; fits = f; short = let h = short_line c f in omega (arith, h) }

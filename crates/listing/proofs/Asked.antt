@@ -1,18 +1,17 @@
 -- What the calls on an open plan, and the lines that are none, do to a session.
-use Rattle.std.proofs.Common.{◌≡◌, ℕ, Bool, true, false, cond, List, length, refl, sym, ap, ◌∙◌, eqb, Option, None, Some, Err}
+use Rattle.std.proofs.Common.{◌≡◌, ℕ, true, false, List, length, refl, ap, ◌∙◌, eqb, None, Some, Err}
 use Rattle.line.specs.Command.{opening, calling}
 use Rattle.line.specs.Meaning.{command_of}
 use Rattle.line.specs.declared.command.Command as code
 use Rattle.line.specs.declared.command.Command.TheVariants.{Open, Create, Grow, Publish, Drop, Cap, Locate}
 use Rattle.listing.specs.Program.{answer_in, after}
-use Rattle.listing.specs.Session.{Ready, Asks}
+use Rattle.listing.specs.Session.{Asks}
 use Rattle.listing.specs.declared.session.Session.{Session}
 use Rattle.footprint.specs.declared.Limits.{Limits}
 use Rattle.model.specs.Calls.{Call, locate, refusal_to, accept, next}
-use Rattle.model.specs.World.{World}
 use Rattle.numbers.proofs.Cases.{cases}
 use Rattle.numbers.specs.declared.refusal.Refusal.TheVariants.{Malformed}
-use Rattle.plan.specs.Calls.{Called, Leaves, Grows, Changes, Locates, left}
+use Rattle.plan.specs.Calls.{Called, Leaves, Locates, left}
 use Rattle.plan_record.specs.Plan.{world_of, Reply}
 use Rattle.plan_record.specs.declared.Outcome.{Outcome}
 use Rattle.plan_record.specs.declared.Plan.{Plan}

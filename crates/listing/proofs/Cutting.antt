@@ -1,6 +1,6 @@
 -- How an input falls into lines: in one block or in several, and what is kept of a line that is too long.
-use Rattle.std.proofs.Common.{◌≡◌, ℕ, ◌+◌, ◌-◌, ◌≤◌, ◌<◌, min, Bool, true, false, cond, List, [], ◌∷◌, ◌++◌, length, take, drop, refl, sym, ap, ◌∙◌, arith, append_assoc, append-nil, length-append, length-take, eqb, Option, None, Some, map, subst}
-use borrow.Author.Tests.{lt-leb, eqb-true}
+use Rattle.std.proofs.Common.{◌≡◌, ℕ, ◌+◌, ◌<◌, false, List, [], ◌∷◌, ◌++◌, length, take, refl, sym, ap, ◌∙◌, arith, append_assoc, append-nil, length-append, length-take, eqb, Option, None, Some, map, subst}
+use borrow.Author.Tests.{eqb-true}
 use Rattle.std.specs.List.{position, position_from}
 use Rattle.std.proofs.lemmas.Iterator.Adapters.{position_from-zero}
 use lib.Seq.{length-take-le, take-append-le}
@@ -13,7 +13,7 @@ use Rattle.listing.specs.Feeding.{kept}
 use Rattle.listing.specs.Lines.{ended, begun, last_line}
 use Rattle.listing.specs.Program.{line_for, after, texts, after_lines}
 use Rattle.model.specs.World.{World}
-use Rattle.numbers.proofs.Cases.{cases, by_lt, clash}
+use Rattle.numbers.proofs.Cases.{cases, by_lt}
 use Rattle.numbers.specs.Lists.{All}
 
 -- ---- two blocks

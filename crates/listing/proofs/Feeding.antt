@@ -1,11 +1,10 @@
 -- What is taken of some bytes, and what it makes of the state.
-use Rattle.std.proofs.Common.{◌≡◌, ℕ, ◌+◌, ◌≤◌, ◌<◌, List, [], ◌∷◌, ◌++◌, length, take, refl, sym, ap, ◌∙◌, arith, append-nil, Option, None, Some}
+use Rattle.std.proofs.Common.{◌≡◌, ℕ, ◌+◌, List, ◌++◌, length, take, refl, sym, ap, ◌∙◌, arith, append-nil, None, Some}
 use Rattle.line.specs.Answer.{answer_text}
 use Rattle.line.specs.Reading.{command_in}
 use Rattle.line.specs.declared.answer.Answer.{Answer}
 use Rattle.listing.proofs.Cutting.{Inside, EndAt, line_taken, end_taken, end_inside, ended_none, begun_none, ended_one, begun_one, command_kept}
-use Rattle.listing.specs.Feeding.{Kept, world_in, begun_in, kept, Ready, Fed, Ends, Takes, text_in}
-use Rattle.listing.specs.Lines.{ended, begun}
+use Rattle.listing.specs.Feeding.{Kept, world_in, begun_in, Ready, Ends, Takes}
 use Rattle.listing.specs.Program.{line_for, after, texts, after_lines}
 use Rattle.listing.specs.Session.{Answers}
 use Rattle.listing.specs.declared.listing.Listing.{Listing}

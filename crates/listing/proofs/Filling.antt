@@ -1,5 +1,5 @@
 -- Bytes behind one another, and answers behind one another.
-use Rattle.std.proofs.Common.{◌≡◌, ℕ, ◌+◌, ◌-◌, ◌≤◌, ◌<◌, List, [], ◌∷◌, ◌++◌, length, take, drop, leb, refl, sym, ap, ◌∙◌, arith, append_assoc, append-nil, length-append, length-take, length-drop, le-leb, Option, None, Some, Bool, true, false, cond, subst}
+use Rattle.std.proofs.Common.{◌≡◌, ℕ, ◌+◌, ◌-◌, ◌≤◌, ◌<◌, List, [], ◌++◌, length, take, drop, leb, refl, sym, ap, ◌∙◌, arith, append-nil, length-append, length-take, length-drop, le-leb, Bool, true, false, cond, subst}
 use lib.ListN.{take-append-drop}
 use lib.Seq.{drop-drop, drop-append_seam, length-take-le, take-add}
 use native.Mathlib.Nat.{add-zero}
@@ -11,7 +11,6 @@ use Rattle.listing.specs.Lines.{ended, begun}
 use Rattle.listing.specs.Program.{texts, after_lines}
 use Rattle.listing.specs.declared.listing.Listing.{Listing}
 use Rattle.listing.specs.declared.listing.Next.{Next}
-use Rattle.numbers.proofs.Cases.{by_lt}
 use Rattle.std.proofs.lemmas.List.{take_all}
 
 -- ---- the state

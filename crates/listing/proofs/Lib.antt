@@ -5,3 +5,4 @@ pub mod Cutting
 pub mod Feeding
 pub mod Filling
 pub mod Running
+pub mod Words

@@ -1,5 +1,5 @@
 -- What the program's open does: 01's open of no records.
-use Rattle.std.proofs.Common.{◌≡◌, ℕ, ◌/◌, Bool, true, false, cond, List, [], length, refl, sym, ap, ◌∙◌, arith, eqb, min, Option, None, Some, Ok, Err, Result, subst}
+use Rattle.std.proofs.Common.{◌≡◌, ℕ, Bool, true, false, List, [], length, refl, sym, ap, ◌∙◌, Option, None, Some, Ok, Err, subst}
 use borrow.Author.Tests.{eq-eqb, ne_eqb}
 use Rattle.footprint.specs.declared.Limits.{Limits}
 use Rattle.line.specs.Command.{opening}
@@ -13,8 +13,8 @@ use Rattle.numbers.proofs.Pairs.{length_pairs}
 use Rattle.numbers.specs.Refusals.{answer, refusal_number}
 use Rattle.numbers.specs.declared.refusal.Refusal.{Refusal}
 use Rattle.plan_checks.specs.Opening.{opening_of}
-use Rattle.plan_open.specs.Open.{Opens, places_of, least_of}
-use Rattle.plan_record.specs.Plan.{world_of, reply_of, Reply}
+use Rattle.plan_open.specs.Open.{Opens, places_of}
+use Rattle.plan_record.specs.Plan.{reply_of, Reply}
 use Rattle.plan_record.specs.declared.Outcome.{Outcome}
 use Rattle.std.specs.Result.{is_ok}
 

@@ -1,5 +1,5 @@
 -- The program's run: blocks, and the end.
-use Rattle.std.proofs.Common.{◌≡◌, ℕ, ◌+◌, ◌-◌, ◌≤◌, ◌<◌, List, [], ◌∷◌, ◌++◌, length, take, drop, refl, sym, ap, ◌∙◌, arith, append_assoc, append-nil, length-take, length-drop, Option, None, Some, Result, Ok, Err, OnOk, subst}
+use Rattle.std.proofs.Common.{◌≡◌, ℕ, ◌+◌, ◌-◌, ◌≤◌, ◌<◌, List, [], ◌∷◌, ◌++◌, length, take, drop, refl, sym, ap, ◌∙◌, arith, append-nil, length-take, length-drop, Option, None, Some, Result, Ok, Err, OnOk, subst}
 use lib.ListN.{take-append-drop}
 use lib.Seq.{take-add}
 use Rattle.line.specs.Answer.{answer_text, Put}
@@ -7,15 +7,15 @@ use Rattle.line.specs.Reading.{command_in}
 use Rattle.line.specs.declared.answer.Answer.{Answer}
 use Rattle.listing.proofs.Cutting.{ended_append, texts_append, last_kept}
 use Rattle.listing.proofs.Filling.{fed_start, fed_on, told_on, put_front}
-use Rattle.listing.specs.Feeding.{world_in, begun_in, kept, Ready, Fed, Ends, Lasts, Fills, text_in}
+use Rattle.listing.specs.Feeding.{world_in, begun_in, Ready, Fed, Ends, Lasts, Fills, text_in}
 use Rattle.listing.specs.Lines.{ended, begun, last_line}
 use Rattle.listing.specs.Program.{line_for, texts, after_lines}
 use Rattle.listing.specs.Running.{Passes, Finishes, Drives}
 use Rattle.listing.specs.declared.listing.Filled.{Filled}
 use Rattle.listing.specs.declared.listing.Listing.{Listing}
 use Rattle.std.proofs.lemmas.List.{take_all}
-use Rattle.std.specs.Io.KnownBytes.{Appends, Consumes, Keeps, IsAtEnd, ReadConsumes}
-use Rattle.streams.proofs.Known.{keeps_same, appends_none, appends_on, consumes_none, consumes_on, consumes_keeps, sent_then, sent_short, sent_front, sent_whole}
+use Rattle.std.specs.Io.KnownBytes.{Appends, Consumes, Keeps, IsAtEnd}
+use Rattle.streams.proofs.Known.{appends_none, appends_on, consumes_none, consumes_on, consumes_keeps, sent_then, sent_short, sent_front, sent_whole}
 use Rattle.streams.specs.Streams.{Sent}
 
 -- ---- the end

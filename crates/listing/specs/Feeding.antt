@@ -1,5 +1,5 @@
 -- What feeding bytes to the program does.
-use Rattle.std.specs.Prelude.{ℕ, ◌+◌, ◌≤◌, ◌<◌, List, [], ◌++◌, ◌≡◌, length, take, drop, ◌-◌, Option, None, Some}
+use Rattle.std.specs.Prelude.{ℕ, ◌≤◌, ◌<◌, List, [], ◌++◌, ◌≡◌, length, take, drop, ◌-◌, Option, None, Some}
 use Rattle.line.specs.Answer.{answer_text}
 use Rattle.line.specs.Meaning.{line_of}
 use Rattle.line.specs.Reading.{command_in}

@@ -1,5 +1,5 @@
 -- What is promised of the program's run.
-use Rattle.std.specs.Prelude.{ℕ, List, [], ◌++◌, ◌≡◌, Option, Result, OnOk}
+use Rattle.std.specs.Prelude.{ℕ, List, ◌++◌, ◌≡◌, Option, Result, OnOk}
 use Rattle.listing.specs.Feeding.{world_in, begun_in, Ready, Fed}
 use Rattle.listing.specs.Lines.{ended, begun, last_line}
 use Rattle.listing.specs.Program.{texts, output}

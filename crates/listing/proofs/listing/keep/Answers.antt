@@ -1,4 +1,3 @@
-use Rattle.std.proofs.Common.{refl}
 use Rattle.listing.proofs.Keeping.{keeps}
 use Rattle.listing.proofs.listing.keep.Goals as goal
 

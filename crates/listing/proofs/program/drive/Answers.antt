@@ -1,5 +1,4 @@
-use Rattle.std.proofs.Common.{◌≡◌, ◌∙◌, ◌<◌, length, refl, sym, rules, arith, subst, Err, take, List, ℕ}
-use Rattle.std.specs.Io.KnownBytes.{Consumes}
+use Rattle.std.proofs.Common.{◌≡◌, ◌∙◌, ◌<◌, length, refl, rules, arith, Err}
 use Rattle.listing.proofs.Running.{driving_start, drives_short, drives_end, driving_on, drives_failed}
 use Rattle.streams.proofs.Known.{keeps_same, nothing_read}
 use Rattle.listing.proofs.program.drive.Goals as goal
