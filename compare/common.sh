@@ -1,7 +1,7 @@
 # Sourced by run, bench and sample: finds what the comparison needs, builds both sides.
 here=$(cd "$(dirname "${BASH_SOURCE[0]}")" && pwd)
 root=$(dirname "$here")
-modules="align sort footprint regionmap settle freemap accounting plan layout"
+modules="align sort footprint regionmap settle freemap accounting plan layout listing"
 
 lacking() {
   echo "$1"
@@ -22,7 +22,12 @@ for name in exports fundravai plan_exports; do
   fi
   cp "crates/$name/out/lib$name.a" target/staticlib/ || exit 2
 done
-export EXPORTS="$root/target/staticlib"
+if ! log=$(cd crates/planner && rt run 2>&1 </dev/null); then
+  echo "$log"
+  exit 2
+fi
+cp crates/planner/out/planner target/ || exit 2
+export EXPORTS="$root/target/staticlib" PROGRAM="$root/target/planner"
 cd "$here" || exit 2
 if ! cargo build --release --offline --quiet; then
   exit 2

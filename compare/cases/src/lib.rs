@@ -8,6 +8,7 @@ pub mod freemap;
 pub mod layout;
 pub mod lent;
 pub mod plan;
+pub mod program;
 pub mod random;
 pub mod regionmap;
 pub mod settle;

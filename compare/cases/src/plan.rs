@@ -3,7 +3,7 @@
 //! against ours.
 
 mod bench;
-mod call;
+pub mod call;
 mod draw;
 mod each;
 mod inplace;
@@ -109,4 +109,24 @@ pub fn compare(random: &mut Random) -> Result<usize, String> {
 /// What the listing program writes if the model is its plan.
 pub fn listing(input: &[u8]) -> String {
     listing::answers(&mut *model(), input)
+}
+
+/// The same of the plan in place.
+pub fn listing_in_place(input: &[u8]) -> String {
+    listing::answers(&mut *in_place(), input)
+}
+
+/// The calls that the lines of an input are.
+pub fn calls_in(input: &[u8]) -> Vec<call::Call> {
+    listing::calls(input)
+}
+
+/// Makes calls on a plan in place that the first line opens; None if it does not.
+pub fn opened_in_place(input: &[u8]) -> Option<impl FnMut(&[call::Call]) -> u64> {
+    let mut side = in_place();
+    let opened = listing::open_first(&mut *side, input);
+    opened.then_some(move |calls: &[call::Call]| {
+        let accepted = calls.iter().map(|c| u64::from(side.ask(c, call::Places::ALL).accepted()));
+        accepted.sum()
+    })
 }

@@ -125,7 +125,7 @@ impl Session {
         if !self.opened {
             return (0, 0);
         }
-        (self.plan.held(), self.plan.free())
+        self.plan.held_and_free()
     }
 
     // Answers a line.

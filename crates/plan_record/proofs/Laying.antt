@@ -9,7 +9,9 @@ use lib.ListN.{length, take, drop, set, get_or, length-append, length-take}
 use lib.Seq.{sets, take-suc, take-take, get_or-take, get_or-drop, length-take-le, take-length, take_all}
 use Rattle.numbers.specs.Pairs.{pairs}
 use Rattle.numbers.specs.Range.{Range, range, blank}
-use Rattle.plan_record.specs.Inner.{block_in, region_extents, laid, laid_each, laid_all, Lays}
+use Rattle.numbers.specs.Sums.{top, stop}
+use Rattle.std.specs.Prelude.{fold}
+use Rattle.plan_record.specs.Inner.{block_in, region_extents, laid, laid_each, laid_all, Lays, MostRanges}
 use Rattle.plan_record.specs.Plan.{row_in, places, regions_of, past_region}
 use Rattle.plan_record.specs.declared.Plan.{Plan}
 use Rattle.plan_record.specs.declared.Region.{Region}
@@ -161,3 +163,33 @@ module _ (p : Plan) {n : ℕ} (c : n ≡ length (regions_of p)) {block : ℕ} {x
 
     pub all_length : at ≡ length (laid_all p xs)
     all_length = g.ends ∙ ap length whole_is
+
+-- ---- how many there are at most
+
+module _ (block : ℕ) (xs : List ℕ) where
+  laid_most : (r : Region) → length (laid block xs r) ≤ 2 + min r.extent_count 60
+  unfolding laid region_extents
+  laid_most r = let e = length-take (min r.extent_count 60) (row_in (min r.row 63) (pairs xs)) in omega (arith, e)
+
+  counted_most : (gs : List Region) (n : ℕ) → n + 62 * length gs ≤ top
+      → n + length (laid_each block xs gs) ≤ fold {A = Region} {B = ℕ} (λ s r. stop (stop (s + 2) + min r.extent_count 60)) n gs
+  unfolding laid_each
+  counted_most [] n h = omega arith
+  counted_most (g ∷ gs) n h =
+      let m = laid_most g in
+      let e = length-append (laid block xs g) (laid_each block xs gs) in
+      let i = counted_most gs (stop (stop (n + 2) + min g.extent_count 60)) (omega (arith, h)) in
+      omega (arith, m, e, i, h)
+
+counted_few : (gs : List Region) (n : ℕ) → fold {A = Region} {B = ℕ} (λ s r. stop (stop (s + 2) + min r.extent_count 60)) n gs ≤ n + 62 * length gs
+counted_few [] n = omega arith
+counted_few (g ∷ gs) n = let i = counted_few gs (stop (stop (n + 2) + min g.extent_count 60)) in omega (arith, i)
+
+pub most_ranges : (p : Plan) {n k : ℕ} → n ≡ length (regions_of p) → n ≤ 64
+    → k ≡ fold {A = Region} {B = ℕ} (λ s r. stop (stop (s + 2) + min r.extent_count 60)) 0 (take n p.regions) → MostRanges p k
+most_ranges p {n} {k} c h e =
+    let f = e ∙ ap (fold {A = Region} {B = ℕ} (λ s r. stop (stop (s + 2) + min r.extent_count 60)) 0) (counted_are p n c) in
+    record {
+      enough = λ xs. let m = counted_most (block_in p) xs (regions_of p) 0 (omega (arith, c, h)) in omega (arith, m, f);
+      most = let m = counted_few (regions_of p) 0 in omega (arith, m, f, c, h);
+    }

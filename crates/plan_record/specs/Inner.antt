@@ -39,6 +39,11 @@ laid_each block xs (r ∷ rs) = laid block xs r ++ laid_each block xs rs
 abbrev pub laid_all : Plan → List ℕ → List Range
 laid_all p xs = laid_each (block_in p) xs (regions_of p)
 
+-- As many ranges as are laid, or more; a region has 62 at most, and there are 64.
+pub record MostRanges (p : Plan) (n : ℕ) : Type 0 where
+  pub enough : (xs : List ℕ) → length (laid_all p xs) ≤ n
+  pub most : n ≤ 3968
+
 -- Ranges stored one by one into the pairs of a list, from a place on.
 pub record Lays (s t : List ℕ) (at : ℕ) (rs : List Range) : Type 0 where
   pub stored : pairs t ≡ sets (pairs s) at rs

@@ -26,12 +26,20 @@ impl Plan {
         held_by(&self.regions[..self.counted()], two)
     }
 
-    // What the held bytes leave of the container behind its table.
+    // The held bytes, and what they leave of the container behind its table.
+    pub fn held_and_free(&self) -> (u64, u64)
+        ensures held { HeldTold self.now result.0 }
+        ensures free { FreeTold self.now result.1 }
+    {
+        let held = self.held();
+        let behind = self.limits.file_len.saturating_sub(self.limits.table_end);
+        (held, behind.saturating_sub(held))
+    }
+
     pub fn free(&self) -> u64
         ensures { FreeTold self.now result }
     {
-        let behind = self.limits.file_len.saturating_sub(self.limits.table_end);
-        behind.saturating_sub(self.held())
+        self.held_and_free().1
     }
 
     // The published bytes of a tag's regions.

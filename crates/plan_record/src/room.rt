@@ -1,19 +1,38 @@
 // Where the next piece goes: first fit among the gaps that the footprints leave.
-ghost use Rattle.std.specs.Prelude.{◌≡◌, ◌+◌, ◌*◌, ◌≤◌, length};
+ghost use Rattle.std.specs.Prelude.{◌≡◌, ◌+◌, ◌*◌, ◌≤◌, fold, length, min};
 ghost use Rattle.numbers.specs.Pairs.{pairs};
-ghost use Rattle.plan_record.specs.Plan.{places, regions_of};
+ghost use Rattle.numbers.specs.Sums.{stop};
+ghost use Rattle.plan_record.specs.Inner.{laid_all, MostRanges};
+ghost use Rattle.plan_record.specs.Plan.{places};
 ghost use Rattle.plan_record.specs.Promises.{Fits};
 
 use crate::footprints::Rows;
-use crate::{Plan, Reply};
+use crate::{Plan, Region, Reply};
 use footprint::block_of;
 use freemap::FreeMap;
 use numbers::Refusal;
 
+// How many ranges the footprints of regions have, or a few more; a region has 62 at most.
+fn ranges_of(regions: &[Region]) -> usize
+    ensures { result ≡ fold (λ s r. stop (stop (s + 2) + min r.extent_count 60)) 0 regions.now }
+{
+    regions.iter().fold(0usize, |sum, region| {
+        sum.saturating_add(2)
+            .saturating_add(region.extent_count.min(60))
+    })
+}
+
 impl Plan {
+    // How many ranges there are at most.
+    fn most_ranges(&self) -> usize
+        ensures { MostRanges self.now result }
+    {
+        ranges_of(&self.regions[..self.counted()])
+    }
+
     // First fit of n bytes, with room for the ranges and the gaps.
     fn fit_among(&self, n: u64, rows: Rows<'_>, ranges: &mut [u64], gaps: &mut [u64]) -> Reply
-        requires { (124 * length (regions_of self.now) ≤ length ranges.old) × (length ranges.old + 2 ≤ length gaps.old) }
+        requires { (2 * length (laid_all self.now rows.extents.now) ≤ length ranges.old) × (length ranges.old + 2 ≤ length gaps.old) }
         ensures { Fits self.now n rows.entry.extents.now result }
     {
         let count = self.lay_footprints(rows, ranges);
@@ -27,10 +46,10 @@ impl Plan {
         map.first_fit(gaps, n, block_of(self.limits.log2_block), 0)
     }
 
-    // The same, with the room of its own. Its arrays are cleared at every call, so a plan of few regions takes
+    // The same, with the room of its own. Its arrays are cleared at every call, so a plan of few ranges takes
     // short ones.
     fn fit_within<const RANGES: usize, const GAPS: usize>(&self, n: u64, rows: Rows<'_>) -> Reply
-        requires { (124 * length (regions_of self.now) ≤ RANGES) × (RANGES + 2 ≤ GAPS) × (GAPS ≤ 7938) }
+        requires { (2 * length (laid_all self.now rows.extents.now) ≤ RANGES) × (RANGES + 2 ≤ GAPS) × (GAPS ≤ 7938) }
         ensures { Fits self.now n rows.entry.extents.now result }
     {
         let mut ranges = [0u64; RANGES];
@@ -38,14 +57,14 @@ impl Plan {
         self.fit_among(n, rows, &mut ranges, &mut gaps)
     }
 
-    // A region has 62 ranges at most.
     fn fit_by_count(&self, n: u64, rows: Rows<'_>) -> Reply
         ensures { Fits self.now n rows.entry.extents.now result }
     {
-        match self.counted() {
-            0..=2 => self.fit_within::<248, 250>(n, rows),
-            3..=8 => self.fit_within::<992, 994>(n, rows),
-            9..=24 => self.fit_within::<2976, 2978>(n, rows),
+        match self.most_ranges() {
+            0..=124 => self.fit_within::<248, 250>(n, rows),
+            125..=496 => self.fit_within::<992, 994>(n, rows),
+            497..=992 => self.fit_within::<1984, 1986>(n, rows),
+            993..=1984 => self.fit_within::<3968, 3970>(n, rows),
             _ => self.fit_within::<7936, 7938>(n, rows),
         }
     }

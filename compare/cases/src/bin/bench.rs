@@ -1,13 +1,13 @@
 //! Times both sides on the same inputs in one run. Arguments: a seed, and a module if not all are timed.
 
 use cases::random::{Random, SEED};
-use cases::{accounting, align, footprint, freemap, layout, plan, regionmap, settle, sort, table};
+use cases::{accounting, align, footprint, freemap, layout, plan, program, regionmap, settle, sort, table};
 
 fn main() {
     let seed = std::env::args()
         .nth(1)
         .map_or(SEED, |a| a.parse().expect("the seed is a number"));
-    let modules: [(&str, fn(&mut Random)); 9] = [
+    let modules: [(&str, fn(&mut Random)); 10] = [
         ("align", align::bench),
         ("sort", sort::bench),
         ("footprint", footprint::bench),
@@ -17,6 +17,7 @@ fn main() {
         ("accounting", accounting::bench),
         ("plan", plan::bench),
         ("layout", layout::bench),
+        ("listing", program::bench),
     ];
     let only = std::env::args().nth(2);
     table::head();

@@ -1,7 +1,7 @@
 //! Runs both sides on the same inputs. Arguments: a seed, and a module if not all are run.
 
 use cases::random::{Random, SEED};
-use cases::{accounting, align, footprint, freemap, layout, plan, regionmap, settle, sort};
+use cases::{accounting, align, footprint, freemap, layout, plan, program, regionmap, settle, sort};
 use std::process::ExitCode;
 
 type Compare = fn(&mut Random) -> Result<usize, String>;
@@ -11,7 +11,7 @@ fn main() -> ExitCode {
         .nth(1)
         .map_or(SEED, |a| a.parse().expect("the seed is a number"));
     println!("seed {seed}");
-    let modules: [(&str, Compare); 9] = [
+    let modules: [(&str, Compare); 10] = [
         ("align", align::compare),
         ("sort", sort::compare),
         ("footprint", footprint::compare),
@@ -21,6 +21,7 @@ fn main() -> ExitCode {
         ("accounting", accounting::compare),
         ("plan", plan::compare),
         ("layout", layout::compare),
+        ("listing", program::compare),
     ];
     let only = std::env::args().nth(2);
     for (name, compare) in modules {

@@ -312,7 +312,7 @@ impl Side for InPlace {
     }
 
     fn free(&self) -> u64 {
-        self.free_map().free_bytes()
+        self.limits.file_len - self.limits.table_end - self.held
     }
 
     fn totals(&self, tag: u32) -> (u64, u64) {

@@ -104,6 +104,26 @@ fn parsed(line: &[u8]) -> Option<Line> {
     })
 }
 
+/// The calls among the lines, but for opens.
+pub fn calls(input: &[u8]) -> Vec<Call> {
+    let lines = input.split(|b| *b == b'\n');
+    lines
+        .filter_map(|line| match parsed(line) {
+            Some(Line::Call(call)) => Some(call),
+            _ => None,
+        })
+        .collect()
+}
+
+/// Opens by the first line, if that is an open that is accepted.
+pub fn open_first(side: &mut dyn Side, input: &[u8]) -> bool {
+    let first = input.split(|b| *b == b'\n').next();
+    match first.and_then(parsed) {
+        Some(Line::Open(limits)) => side.open(&Opening::empty(limits)).accepted(),
+        _ => false,
+    }
+}
+
 /// What the listing program writes if the side is its plan.
 pub fn answers(side: &mut dyn Side, input: &[u8]) -> String {
     let mut lines: Vec<&[u8]> = input.split(|b| *b == b'\n').collect();
