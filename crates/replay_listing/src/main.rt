@@ -6,8 +6,7 @@ ghost use Rattle.std.specs.Prelude.{IfOk, ◌≡◌};
 ghost use Rattle.listing.specs.Program.{output};
 
 use std::alloc::Global;
-use std::fs;
-use std::io;
+use std::{fs, io};
 
 const NAMES: [&str; 20] = [
     "nothing",
