@@ -8,7 +8,7 @@ mod draw;
 mod each;
 mod inplace;
 mod limits;
-mod listing;
+pub mod listing;
 mod many;
 mod mistake;
 mod model;
@@ -111,6 +111,11 @@ pub fn listing(input: &[u8]) -> String {
     listing::answers(&mut *model(), input)
 }
 
+/// Lists of lines that are answered beforehand.
+pub fn answered() -> Result<Vec<listing::Answered>, String> {
+    listing::answered()
+}
+
 /// The same of the plan in place.
 pub fn listing_in_place(input: &[u8]) -> String {
     listing::answers(&mut *in_place(), input)
@@ -126,7 +131,9 @@ pub fn opened_in_place(input: &[u8]) -> Option<impl FnMut(&[call::Call]) -> u64>
     let mut side = in_place();
     let opened = listing::open_first(&mut *side, input);
     opened.then_some(move |calls: &[call::Call]| {
-        let accepted = calls.iter().map(|c| u64::from(side.ask(c, call::Places::ALL).accepted()));
+        let accepted = calls
+            .iter()
+            .map(|c| u64::from(side.ask(c, call::Places::ALL).accepted()));
         accepted.sum()
     })
 }

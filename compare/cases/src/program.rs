@@ -2,7 +2,7 @@
 
 mod draw;
 
-use crate::plan::{calls_in, listing, listing_in_place, opened_in_place};
+use crate::plan::{answered, calls_in, listing, listing_in_place, opened_in_place};
 use crate::random::Random;
 use crate::table::{median, row};
 use std::env;
@@ -75,9 +75,14 @@ fn held_to(whose: &str, input: &[u8], found: &str, due: &str) -> Result<usize, S
     ))
 }
 
-/// How many lines the program answers as the model and the plan in place do.
+/// How many lines the program answers as it is due, or as the model and the plan in place do.
 pub fn compare(random: &mut Random) -> Result<usize, String> {
     let mut lines = 0;
+    let lists = answered()?;
+    for (name, input, due) in &lists {
+        lines += held_to(name, input, &written(input, &[input.len().max(1)])?, due)?;
+    }
+    println!("lists answered beforehand: {}, {lines} lines", lists.len());
     let mut refusals = [0usize; 26];
     for k in 0..600 {
         let calls = if k % 50 == 49 { 20_000 } else { 250 };
@@ -87,7 +92,9 @@ pub fn compare(random: &mut Random) -> Result<usize, String> {
         let pieces: Vec<usize> = (0..16).map(|_| 1 + random.below(9000) as usize).collect();
         lines += held_to("the model", &input, &written(&input, &pieces)?, &due)?;
         for line in due.lines() {
-            let number = line.strip_prefix("refusal=").and_then(|l| l.split(' ').next());
+            let number = line
+                .strip_prefix("refusal=")
+                .and_then(|l| l.split(' ').next());
             let number: usize = number.and_then(|n| n.parse().ok()).expect("a number");
             refusals[number] += 1;
         }
@@ -124,8 +131,14 @@ pub fn bench(random: &mut Random) {
     let lines = 1_000_000;
     let each = |time: f64| time / lines as f64;
     for (what, input) in [
-        ("  mixed calls at 64 regions", draw::mixed(random, lines, 40)),
-        ("  mixed, few creates and grows", draw::mixed(random, lines, 4)),
+        (
+            "  mixed calls at 64 regions",
+            draw::mixed(random, lines, 40),
+        ),
+        (
+            "  mixed, few creates and grows",
+            draw::mixed(random, lines, 4),
+        ),
         ("  locates", draw::located(random, lines)),
         ("  malformed lines", draw::malformed(lines)),
     ] {
@@ -141,9 +154,13 @@ pub fn bench(random: &mut Random) {
         row(what, rust, ours);
         let calls = calls_in(&input);
         if let Some(mut many) = opened_in_place(&input) {
-            let alone = each(median(1, || (), |_| {
-                many(&calls);
-            }));
+            let alone = each(median(
+                1,
+                || (),
+                |_| {
+                    many(&calls);
+                },
+            ));
             row("    beside the calls of the plan in place", alone, ours);
         }
     }

@@ -1,7 +1,9 @@
 //! Times both sides on the same inputs in one run. Arguments: a seed, and a module if not all are timed.
 
 use cases::random::{Random, SEED};
-use cases::{accounting, align, footprint, freemap, layout, plan, program, regionmap, settle, sort, table};
+use cases::{
+    accounting, align, footprint, freemap, layout, plan, program, regionmap, settle, sort, table,
+};
 
 fn main() {
     let seed = std::env::args()

@@ -1,7 +1,9 @@
 //! Runs both sides on the same inputs. Arguments: a seed, and a module if not all are run.
 
 use cases::random::{Random, SEED};
-use cases::{accounting, align, footprint, freemap, layout, plan, program, regionmap, settle, sort};
+use cases::{
+    accounting, align, footprint, freemap, layout, plan, program, regionmap, settle, sort,
+};
 use std::process::ExitCode;
 
 type Compare = fn(&mut Random) -> Result<usize, String>;

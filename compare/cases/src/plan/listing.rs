@@ -194,9 +194,11 @@ fn held_to(name: &str, list: &str, make: Maker, input: &[u8], due: &str) -> Resu
     ))
 }
 
-/// How many lines the sides answer as it is due: document 01's own listing, and the forty lists where
-/// they are at hand.
-pub fn compare(sides: &[(&str, Maker)]) -> Result<usize, String> {
+/// A list, its lines, and its answers.
+pub type Answered = (String, Vec<u8>, String);
+
+/// Document 01's own listing, and the forty lists where they are at hand.
+pub fn answered() -> Result<Vec<Answered>, String> {
     let mut lists = vec![(String::from("01"), OWN.into(), OWN_ANSWERS.to_string())];
     let folder = Path::new(VECTORS);
     let mut files: Vec<_> = match fs::read_dir(folder) {
@@ -211,6 +213,12 @@ pub fn compare(sides: &[(&str, Maker)]) -> Result<usize, String> {
         let name = file.file_name().unwrap_or_default().to_string_lossy();
         lists.push((name.into(), read(file)?, due.expect("answers are text")));
     }
+    Ok(lists)
+}
+
+/// How many lines the sides answer as it is due.
+pub fn compare(sides: &[(&str, Maker)]) -> Result<usize, String> {
+    let lists = answered()?;
     let mut lines = 0;
     for (list, input, due) in &lists {
         for &(name, make) in sides {
@@ -218,11 +226,8 @@ pub fn compare(sides: &[(&str, Maker)]) -> Result<usize, String> {
             lines += due.lines().count();
         }
     }
-    match files.len() {
-        0 => println!(
-            "lists answered beforehand: none at hand, {}",
-            folder.display()
-        ),
+    match lists.len() - 1 {
+        0 => println!("lists answered beforehand: none at hand, {VECTORS}"),
         n => println!("lists answered beforehand: {n}, and 01's own; {lines} lines, no difference"),
     }
     Ok(lines)

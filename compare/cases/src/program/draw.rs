@@ -172,7 +172,10 @@ impl Shadow {
             capacity: [0; 64],
             published: [0; 64],
         };
-        shadow.line(format!("call=open table_end=4096 len={} log2=12", u64::MAX >> 1));
+        shadow.line(format!(
+            "call=open table_end=4096 len={} log2=12",
+            u64::MAX >> 1
+        ));
         (0..64).for_each(|i| shadow.create(i));
         for _ in 0..extents {
             (0..64).for_each(|i| shadow.grow(i));
