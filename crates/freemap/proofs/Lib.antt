@@ -3,6 +3,7 @@ pub mod Ordered
 pub mod Words
 pub mod Places
 pub mod Held
+pub mod Parts
 pub mod Sweeping
 mod Fitting
 mod Counting

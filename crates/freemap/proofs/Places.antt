@@ -1,5 +1,5 @@
 -- First fit in words: the least place of all, by gaps and by free bytes.
-use Rattle.std.proofs.Common.{◌≡◌, ℕ, suc, ◌+◌, ◌-◌, ◌*◌, ◌<◌, ◌≤◌, true, false, not, List, [], ◌∷◌, sym, refl, ap, ◌∙◌, inl, inr, ⊎_elim, le_antisymm, arith, leb-true}
+use Rattle.std.proofs.Common.{◌≡◌, ℕ, suc, ◌+◌, ◌-◌, ◌*◌, ◌<◌, ◌≤◌, true, false, not, List, [], ◌∷◌, sym, ap, ◌∙◌, inl, inr, ⊎_elim, le_antisymm, arith, leb-true}
 use Rattle.std.specs.Prelude.{Option, None, Some}
 use Rattle.freemap.specs.Fit.{place_in, skipped, allows, first_fit}
 use Rattle.freemap.specs.Gaps.{Covered, gaps_of}

@@ -3,7 +3,7 @@
 #![tactic(auto)]
 
 mod search;
-mod sum;
+pub mod sum;
 mod sweep;
 
 ghost use Rattle.std.specs.Prelude.{◌≡◌, true, false, MatchResult};

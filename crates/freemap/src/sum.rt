@@ -1,6 +1,6 @@
 // The lengths of gaps together.
 ghost use Rattle.std.specs.Prelude.{◌≡◌};
-ghost use Rattle.numbers.specs.Pairs.{ranges_in};
+ghost use Rattle.numbers.specs.Pairs.{pairs, ranges_in};
 ghost use Rattle.numbers.specs.Range.{total};
 ghost use Rattle.numbers.specs.Sums.{stop};
 
@@ -17,4 +17,12 @@ pub(crate) fn sum_bytes(gaps: &[[u64; 2]]) -> u64
         b = sum;
     }
     a.saturating_add(b)
+}
+
+// The lengths of the pairs of a list together, or 2^64 - 1.
+pub fn bytes_of(ranges: &[u64]) -> u64
+    ensures { result ≡ stop (total (pairs ranges.now)) }
+{
+    let (pairs, _) = ranges.as_chunks::<2>();
+    sum_bytes(pairs)
 }

@@ -1,35 +1,38 @@
 -- First fit among the gaps that a plan's footprints leave is the model's.
 use Rattle.numbers.specs.declared.refusal.Refusal.{Refusal}
-use Rattle.std.specs.Prelude.{Ok, Err, Result, Option}
+use Rattle.std.specs.Prelude.{Result, Option}
 use Prim.Native.Nat.{ℕ, ◌+◌, ◌-◌, ◌*◌, ◌≤◌, ◌<◌, min}
-use mathlib.Core.Bool.{true, false}
+use mathlib.Core.Bool.{true}
 use mathlib.Core.List.{List, [], ◌∷◌, map}
-use mathlib.Core.Path.{◌≡◌, refl, ap, sym, subst, ◌∙◌}
+use mathlib.Core.Path.{◌≡◌, refl, ap, ap₂, sym, subst₂, ◌∙◌}
 use native.Mathlib.Omega.{arith}
-use lib.ListN.{length, take, drop, length-take}
+use lib.ListN.{length, take, drop}
+use lib.Pow.{pow_pos}
 use lib.Seq.{sets-eq, take_at}
-use borrow.Author.Tests.{le-ltb}
-use Rattle.freemap.specs.declared.FreeMap.{FreeMap}
-use Rattle.model.specs.Region.{footprints}
+use Rattle.freemap.specs.Fit.{first_fit}
+use Rattle.freemap.specs.Gaps.{gaps_of}
+use Rattle.model.specs.Region.{footprint, footprints}
 use Rattle.model.specs.World.{held_ranges}
 use Rattle.numbers.specs.Lists.{All}
 use Rattle.numbers.specs.Pairs.{pairs}
 use Rattle.numbers.specs.Powers.{is_power_of_two}
-use Rattle.numbers.specs.Refusals.{accepted, told, refusal_number}
-use Rattle.plan_record.specs.Inner.{block_in, region_extents, laid, laid_each, laid_all, Lays}
+use Rattle.numbers.specs.Range.{Range}
+use Rattle.numbers.specs.Refusals.{accepted}
+use Rattle.plan_record.specs.Inner.{block_in, region_extents, laid, laid_each, laid_all, Lays, Asked, Sought}
 use Rattle.plan_record.specs.Plan.{region_of, regions_of, world_of, Mapped, Valid}
 use Rattle.plan_record.specs.Promises.{Fits}
 use Rattle.plan_record.specs.declared.Plan.{Plan}
 use Rattle.plan_record.specs.declared.Region.{Region}
-use Rattle.freemap.proofs.Words.{gaps_read, read_fit}
-use Rattle.model.proofs.Spans.{least_is_fit}
-use Rattle.numbers.proofs.Answers.{not_both, one_passes}
-use Rattle.numbers.proofs.Pairs.{even_list, length_pairs, pairs_take}
+use Rattle.model.proofs.Figures.{held_within}
+use Rattle.model.proofs.Regions.{all_footprints}
+use Rattle.model.proofs.Sound.{Regular}
+use Rattle.model.proofs.Spans.{block_most, least_is_fit}
+use Rattle.numbers.proofs.Lists.{all_imp}
+use Rattle.numbers.proofs.Pairs.{length_pairs, pairs_take}
 use Rattle.numbers.proofs.Powers.{power_of}
 use Rattle.plan_record.proofs.Holding.{block_is}
 use Rattle.plan_record.proofs.Regions.{all_counted}
-use Rattle.freemap.specs.Fit as freemap
-use Rattle.freemap.specs.Gaps as gaps
+use Rattle.model.specs.Region as model
 
 -- ---- what is laid is what is held
 
@@ -56,7 +59,31 @@ module _ (p : Plan) (xs ss fs : List ℕ) (v : Valid p xs ss fs) where
   pub power_is : is_power_of_two (block_in p) ≡ true
   power_is = power_of 64 (min p.limits.log2_block 16) (omega arith)
 
--- ---- the ranges that are lent to `complement`
+  -- no range that is held is empty
+  pub held_some : All (λ (x : Range). 0 < x.len) (held_ranges (world_of p xs))
+  unfolding world_of
+  held_some =
+      let b = pow_pos p.limits.log2_block in
+      all_footprints (λ (x : Range). 0 < x.len) p.limits (world_of p xs).regions
+      (all_imp (Regular p.limits) (λ (r : model.Region). All (λ (x : Range). 0 < x.len) (footprint p.limits r)) (λ r q. (b, (b, q.some)))
+      (world_of p xs).regions v.sound.regular)
+
+  -- what a search among them may take as given
+  pub held_asked : (n : ℕ) → 0 < n → Asked p.limits.table_end p.limits.file_len n (block_in p) (laid_all p xs)
+  unfolding world_of
+  held_asked n pos =
+      let b = block_most (world_of p xs) v.sound in
+      let e = block_is p xs ss fs v in
+      record {
+        bytes = pos;
+        power = power_is;
+        sums = omega (arith, v.sound.container.file, e);
+        inside = rw laid_held (held_within (world_of p xs) v.sound);
+        some = rw laid_held held_some;
+        apart = rw laid_held v.sound.apart;
+      }
+
+-- ---- the ranges that are lent to the search
 
 module _ (p : Plan) (xs s t : List ℕ) (k : ℕ) (l : Lays s t 0 (laid_all p xs)) (e : k ≡ length (laid_all p xs)) (long : 2 * k ≤ length s) where
   pub lent_pairs : pairs (take (2 * k - 0) t) ≡ laid_all p xs
@@ -66,36 +93,16 @@ module _ (p : Plan) (xs s t : List ℕ) (k : ℕ) (l : Lays s t 0 (laid_all p xs
       rw (d, pairs_take k t, l.stored, sets-eq (laid_all p xs) (pairs s) 0 (omega arith))
       (take_at (laid_all p xs) (drop (0 + length (laid_all p xs)) (pairs s)) k (sym e))
 
-  module _ (t-long : length t ≡ length s) (gs₀ : List ℕ) (wide : length s + 2 ≤ length gs₀) where
-    pub lent_fine : gaps.complement_fails (take (2 * k - 0) t) gs₀ ≡ false
-    unfolding gaps.complement_fails
-    lent_fine =
-        let n : length (take (2 * k - 0) t) ≡ 2 * k = simp length-take (omega arith) in
-        let a = length_pairs gs₀ in
-        let b = ap length lent_pairs in
-        simp (even_list (take (2 * k - 0) t) (omega arith), le-ltb (length (pairs gs₀)) (length (pairs (take (2 * k - 0) t)) + 1) (omega arith))
-
-    module _ (n : ℕ) (rs gs : List ℕ) where
-      abbrev te : ℕ
-      te = p.limits.table_end
-
-      abbrev len : ℕ
-      len = p.limits.file_len
-
-      -- `complement` is not refused
-      pub lent_taken : (r : Result FreeMap Refusal) (m : Refusal) (f : Result (Option ℕ) Refusal) → gaps.Complemented te len (take (2 * k - 0) t) rs gs₀ gs r → r ≡ Err m → Fits p n xs f
-      lent_taken r m f d e' =
-          let c = subst (λ (r : Result FreeMap Refusal). gaps.Complemented te len (take (2 * k - 0) t) rs gs₀ gs r) e' d in
-          absurd (not_both _ (refusal_number m) (sym (one_passes 1 _ _ lent_fine) ∙ sym c.answer))
-
-      pub fits_lowest : (r : Result FreeMap Refusal) (m : FreeMap) (f : Result (Option ℕ) Refusal) (b : ℕ) → gaps.Complemented te len (take (2 * k - 0) t) rs gs₀ gs r → r ≡ Ok m → b ≡ block_in p
-          → told f ≡ freemap.fit_of m gs n b 0 → Fits p n xs f
-      unfolding world_of
-      fits_lowest r m f b d e' q w =
-          let c = subst (λ (r : Result FreeMap Refusal). gaps.Complemented te len (take (2 * k - 0) t) rs gs₀ gs r) e' d in
-          record {
-            told = λ ss fs v pos.
-                let r = gaps_read te len (take (2 * k - 0) t) rs gs₀ gs m c in
-                w ∙ read_fit r n b 0 (rw q (power_is p xs ss fs v))
-                ∙ ap accepted (rw (q, block_is p xs ss fs v, lent_pairs, laid_held p xs ss fs v) (sym (least_is_fit (world_of p xs) v.sound n pos)));
-          }
+  -- first fit beside them is the model's
+  pub fits_lowest : (n b : ℕ) (r : Result (Option ℕ) Refusal) → b ≡ block_in p
+      → Sought p.limits.table_end p.limits.file_len n b (pairs (take (2 * k - 0) t)) r → Fits p n xs r
+  unfolding world_of
+  fits_lowest n b r q f =
+      record {
+        told = λ ss fs v pos.
+            let g = subst₂ (λ (b : ℕ) (rs : List Range). Sought p.limits.table_end p.limits.file_len n b rs r) q lent_pairs f in
+            g.told (held_asked p xs ss fs v n pos)
+            ∙ ap accepted
+            (ap₂ (λ (b : ℕ) (rs : List Range). first_fit n b 0 (gaps_of p.limits.table_end p.limits.file_len rs)) (block_is p xs ss fs v) (laid_held p xs ss fs v)
+            ∙ sym (least_is_fit (world_of p xs) v.sound n pos));
+      }

@@ -1,23 +1,20 @@
 -- Held and free bytes by two blocks and the capacity of each region.
-use Prim.Native.Nat.{ℕ, ◌+◌, ◌-◌, ◌*◌, ◌^◌, ◌≤◌, ◌<◌, min}
+use Prim.Native.Nat.{ℕ, ◌+◌, ◌-◌, ◌*◌, ◌^◌, ◌≤◌, min}
 use mathlib.Core.List.{List, [], ◌∷◌, map, map-map}
 use mathlib.Core.Path.{◌≡◌, refl, ap, sym, ◌∙◌}
-use native.Mathlib.Numerals.{add-one}
 use native.Mathlib.Omega.{arith}
-use lib.ListN.{length, take, get_or, length-map, length-take}
-use lib.Seq.{get_or-take, take_all}
+use lib.ListN.{length, take}
 use Rattle.model.specs.World.{block, held}
 use Rattle.std.specs.Prelude.{fold}
 use Rattle.numbers.specs.Sums.{stop, sum, top}
 use Rattle.plan_record.specs.Inner.{block_in, held_by}
-use Rattle.plan_record.specs.Plan.{region_of, regions_of, world_of, Mapped, Valid, past_region}
+use Rattle.plan_record.specs.Plan.{region_of, regions_of, world_of, Mapped, Valid}
 use Rattle.plan_record.specs.Promises.{HeldTold, FreeTold}
 use Rattle.plan_record.specs.declared.Plan.{Plan}
 use Rattle.plan_record.specs.declared.Region.{Region}
 use Rattle.plan_record.proofs.Counted.{counted_are}
 use Rattle.model.proofs.Figures.{held_by_capacity, held_and_free, held_most}
-use Rattle.numbers.proofs.Lists.{map_same, mapped_at}
-use Rattle.numbers.proofs.Sums.{sum_next, stop_add}
+use Rattle.numbers.proofs.Lists.{map_same}
 use Rattle.model.specs.Region as model
 
 -- a block by its log, where that is one of a container

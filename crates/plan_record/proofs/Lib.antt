@@ -6,6 +6,7 @@ pub mod Laying
 pub mod Holding
 pub mod Regions
 pub mod Fitting
+pub mod Searching
 pub mod Known
 pub mod Tags
 pub mod Changing

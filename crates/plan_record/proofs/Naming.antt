@@ -8,13 +8,12 @@ use mathlib.Core.List.{List}
 use mathlib.Core.Path.{◌≡◌, ap, sym, ◌∙◌}
 use native.Mathlib.Omega.{arith}
 use lib.ListN.{length, take, replicate, length-take, length-append, length-replicate}
-use lib.Seq.{take-append-le, take_all, length-take-le}
+use lib.Seq.{take-append-le}
 use Rattle.numbers.specs.Lists.{any, same}
 use Rattle.plan_record.specs.Inner.{has_name, Named}
 use Rattle.plan_record.specs.Plan.{regions_of}
 use Rattle.plan_record.specs.Record.{name_of}
 use Rattle.plan_record.specs.declared.Plan.{Plan}
-use Rattle.plan_record.specs.declared.Region.{Region}
 use Rattle.numbers.proofs.Cases.{never}
 use Rattle.plan_record.proofs.Counted.{counted_are}
 use Rattle.numbers.proofs.Lists.{same_true, list_any_is, pointwise_same, same_swap}

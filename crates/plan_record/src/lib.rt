@@ -6,6 +6,7 @@ mod footprints;
 mod handing;
 pub mod names;
 pub mod room;
+mod search;
 
 ghost use Rattle.std.specs.Prelude.{IfSome, ◌≡◌, ◌<◌, ◌≤◌, length};
 ghost use Rattle.plan_record.specs.Plan.{regions_of, place_in, blank_region, blank_plan};

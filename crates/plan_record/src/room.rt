@@ -7,10 +7,14 @@ ghost use Rattle.plan_record.specs.Plan.{places};
 ghost use Rattle.plan_record.specs.Promises.{Fits};
 
 use crate::footprints::Rows;
+use crate::search::Piece;
 use crate::{Plan, Region, Reply};
-use footprint::block_of;
-use freemap::FreeMap;
+use footprint::{Limits, block_of};
 use numbers::Refusal;
+
+// How often the ranges are parted at most: as often as 3,968 of them need where each part has half of them, and
+// half as often again.
+const MOST_CUTS: usize = 10;
 
 // How many ranges the footprints of regions have, or a few more; a region has 62 at most.
 fn ranges_of(regions: &[Region]) -> usize
@@ -37,13 +41,13 @@ impl Plan {
     {
         let count = self.lay_footprints(rows, ranges);
         let end = 2 * count;
-        let map = FreeMap::complement(
-            self.limits.table_end,
-            self.limits.file_len,
-            &mut ranges[0..end],
-            gaps,
-        )?;
-        map.first_fit(gaps, n, block_of(self.limits.log2_block), 0)
+        let block = block_of(self.limits.log2_block);
+        let Limits {
+            table_end,
+            file_len,
+            ..
+        } = self.limits;
+        Piece { n, block }.lowest(table_end, file_len, &mut ranges[0..end], gaps, MOST_CUTS)
     }
 
     // The same, with the room of its own. Its arrays are cleared at every call, so a plan of few ranges takes

@@ -1,3 +1,4 @@
 pub mod Sort
 pub mod Places
 pub mod Inner
+pub mod Part
