@@ -7,7 +7,7 @@ use Rattle.listing.specs.Program.{bare, answer_in, after}
 use Rattle.listing.specs.Session.{Ready, Asks}
 use Rattle.listing.specs.declared.session.Session.{Session}
 use Rattle.model.specs.Open.{open_refusal, opened}
-use Rattle.numbers.proofs.Answers.{accepted_is, refused_is}
+use Rattle.numbers.proofs.Answers.{accepted_is, refused_is, no_error}
 use Rattle.numbers.proofs.Cases.{clash}
 use Rattle.numbers.proofs.Pairs.{length_pairs}
 use Rattle.numbers.specs.Refusals.{answer, refusal_number}
@@ -44,6 +44,8 @@ module _ (s : Session) (lim : Limits) (xs ss fs : List ℕ) (o : Outcome)
         world = λ r.
             let z : open_refusal (bare lim) ≡ 0 = (accepted_is _ None v (sym (told r) ∙ rw e refl)).0 in
             rw (closed, eq-eqb _ _ z) (ap Some (h.world k ∙ ap opened (rows r)));
+        refused = λ n f. absurd (no_error v n (sym e ∙ f));
+        located = λ id pos n f. cc;
       }
 
   refused_asks : (n : Refusal) → o.reply ≡ Err n → Asks s (Some (opening lim)) (at s o false xs ss fs) o.reply
@@ -55,6 +57,8 @@ module _ (s : Session) (lim : Limits) (xs ss fs : List ℕ) (o : Outcome)
         world = λ r.
             let z = refused_is _ None (refusal_number n) (sym (told r) ∙ rw e refl) in
             rw (closed, ne_eqb _ _ (λ k. z.1 (sym z.0 ∙ k))) refl;
+        refused = λ k f. let q = h.kept n e in rw (q.1, q.2, q.3) refl;
+        located = λ id pos n f. cc;
       }
 
   pub open_asks : (b : Bool) → b ≡ is_ok o.reply → Asks s (Some (opening lim)) (at s o b xs ss fs) o.reply

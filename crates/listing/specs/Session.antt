@@ -1,12 +1,14 @@
 -- The program's state: the plan with its lists, and the world that they mean.
-use Rattle.std.specs.Prelude.{ℕ, ◌*◌, true, cond, List, ◌≡◌, length, Option, None, Some}
-use Rattle.line.specs.Command.{Command}
+use Rattle.std.specs.Prelude.{ℕ, ◌*◌, ◌<◌, true, cond, List, ◌≡◌, length, Option, None, Some, Err}
+use Rattle.line.specs.Command.{Command, calling}
 use Rattle.line.specs.Meaning.{line_of}
 use Rattle.line.specs.Reading.{command_in}
 use Rattle.line.specs.declared.answer.Answer.{Answer}
 use Rattle.listing.specs.Program.{answer_in, after, held_in, free_in, line_for}
 use Rattle.listing.specs.declared.session.Session.{Session}
+use Rattle.model.specs.Calls.{locate}
 use Rattle.model.specs.World.{World}
+use Rattle.numbers.specs.declared.refusal.Refusal.{Refusal}
 use Rattle.plan_record.specs.Plan.{Valid, world_of, places, reply_of, Reply}
 
 -- A world from an accepted open on.
@@ -30,6 +32,9 @@ pub record Asks (s : Session) (c : Option Command) (t : Session) (r : Reply) : T
   pub ready : Ready s → Ready t
   pub told : Ready s → reply_of r ≡ answer_in (world_in s) c
   pub world : Ready s → world_in t ≡ after (world_in s) c
+  -- of every session, "A refused call returns its number alone and changes nothing", and neither does a locate
+  pub refused : (n : Refusal) → r ≡ Err n → t ≡ s
+  pub located : (id pos n : ℕ) → c ≡ Some (calling (locate id pos n)) → t ≡ s
 
 -- What the figures are.
 pub record Figures (s : Session) (h f : ℕ) : Type 0 where
@@ -41,3 +46,6 @@ pub record Answers (s : Session) (line : List ℕ) (t : Session) (r : Answer) : 
   pub ready : Ready s → Ready t
   pub told : Ready s → line_of r ≡ line_for (world_in s) (command_in line)
   pub world : Ready s → world_in t ≡ after (world_in s) (command_in line)
+  -- of every session, "changes nothing"
+  pub refused : 0 < r.refusal → t ≡ s
+  pub located : (id pos n : ℕ) → command_in line ≡ Some (calling (locate id pos n)) → t ≡ s
