@@ -28,6 +28,8 @@ if ! log=$(cd crates/planner && rt run 2>&1 </dev/null); then
 fi
 cp crates/planner/out/planner target/ || exit 2
 export EXPORTS="$root/target/staticlib" PROGRAM="$root/target/planner"
+# The plan is called by way of examples/rust, which looks for libfundravai.a there.
+export FUNDRAVAI="$EXPORTS"
 cd "$here" || exit 2
 if ! cargo build --release --offline --quiet; then
   exit 2

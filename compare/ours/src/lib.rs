@@ -1,5 +1,5 @@
-//! The Rattle functions of crates/exports, crates/fundravai and crates/plan_exports. No call asks anything of its caller,
-//! so each has a safe form.
+//! The Rattle functions of crates/exports and crates/plan_exports. No call asks anything of its caller, so each has a
+//! safe form. Those of crates/fundravai stand in examples/rust.
 
 pub mod accounts;
 pub mod block;

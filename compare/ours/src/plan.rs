@@ -1,7 +1,8 @@
-//! The library that recorders link, crates/fundravai, on one lent object; and crates/plan_exports, whose lists may have any
-//! length.
+//! The parts of the one object that crates/fundravai is lent, whose calls are declared in examples/rust; and
+//! crates/plan_exports, whose lists may have any length.
 
 use crate::accounts::Accounts;
+use fundravai::header::{self, Object, Record, Reply};
 
 /// The most regions.
 pub const MOST: usize = 64;
@@ -42,33 +43,7 @@ pub struct Plan {
     pub accounts: Accounts,
 }
 
-/// A record of open, and a region handed out. The header's numbers have an h in front.
-#[derive(Clone, Copy, Debug, Default, PartialEq)]
-#[repr(C)]
-pub struct Record {
-    pub number: u64,
-    pub tag: u32,
-    pub name: [u8; 24],
-    pub name_len: u8,
-    pub kind: u8,
-    pub flags: u8,
-    pub extent_count: u16,
-    pub header_a: u64,
-    pub header_b: u64,
-    pub span_start: u64,
-    pub span_end: u64,
-    pub data_size: u64,
-    pub capacity: u64,
-    pub footprint_seq: u64,
-    pub hnumber: u64,
-    pub hkind: u8,
-    pub hflags: u8,
-    pub hready: bool,
-    pub hlog2: u8,
-    pub hcount: u16,
-}
-
-/// A plan and its lists, as the library is lent them.
+/// A plan and its lists: the library's object, with its parts.
 #[derive(Clone, PartialEq)]
 #[repr(C)]
 pub struct Container {
@@ -79,16 +54,20 @@ pub struct Container {
 }
 
 /// As include/fundravai.h has them; the example in C asserts the same of its own.
-const _: () = assert!(size_of::<Region>() == 136 && size_of::<Record>() == 120);
-const _: () = assert!(size_of::<Plan>() == 12_600 && size_of::<Reply>() == 16);
-const _: () = assert!(size_of::<Container>() == 135_480);
+const _: () = assert!(size_of::<Region>() == 136 && size_of::<Plan>() == 12_600);
+const _: () = assert!(size_of::<Container>() == size_of::<Object>());
+const _: () = assert!(align_of::<Container>() == align_of::<Object>());
 
-/// Done is 0, a byte 1 and the byte, a refusal 2 and its number.
-#[derive(Clone, Copy)]
-#[repr(C)]
-pub struct Reply {
-    pub kind: u8,
-    pub value: u64,
+/// The same memory, as the library is lent it: of the same size, aligned alike, and the bools that a call leaves there
+/// are 0 or 1.
+impl Container {
+    pub fn object(&self) -> &Object {
+        unsafe { &*std::ptr::from_ref(self).cast() }
+    }
+
+    pub fn object_mut(&mut self) -> &mut Object {
+        unsafe { &mut *std::ptr::from_mut(self).cast() }
+    }
 }
 
 #[repr(C)]
@@ -106,44 +85,6 @@ struct Each {
 }
 
 unsafe extern "C" {
-    fn fundravai_open(
-        c: &mut Container,
-        log2_block: u8,
-        table_end: u64,
-        file_len: u64,
-        records: *const Record,
-        records_len: usize,
-        listed: *const u64,
-        listed_len: usize,
-        scratch: *mut u64,
-        scratch_len: usize,
-    ) -> Reply;
-    fn fundravai_create(
-        c: &mut Container,
-        id: u64,
-        tag: u32,
-        name: *const u8,
-        name_len: usize,
-    ) -> Reply;
-    safe fn fundravai_grow(c: &mut Container, id: u64) -> Reply;
-    safe fn fundravai_publish(c: &mut Container, id: u64, len: u64) -> Reply;
-    safe fn fundravai_drop(c: &mut Container, id: u64) -> Reply;
-    safe fn fundravai_cap(c: &mut Container, tag: u32, capped: bool, limit: u64) -> Reply;
-    safe fn fundravai_locate(c: &Container, id: u64, pos: u64, n: u64) -> Reply;
-    safe fn fundravai_held(c: &Container) -> u64;
-    safe fn fundravai_free(c: &Container) -> u64;
-    safe fn fundravai_logical(c: &Container, tag: u32) -> u64;
-    safe fn fundravai_physical(c: &Container, tag: u32) -> u64;
-    safe fn fundravai_last_number(c: &Container) -> u64;
-    safe fn fundravai_region_count(c: &Container) -> usize;
-    fn fundravai_region(
-        c: &Container,
-        i: usize,
-        record: &mut Record,
-        out: *mut u64,
-        out_len: usize,
-    ) -> Reply;
-
     fn fundravai_plan_open(
         log2_block: u8,
         table_end: u64,
@@ -212,70 +153,8 @@ pub struct Opening<'a> {
 }
 
 pub fn open(c: &mut Container, o: Opening, scratch: &mut [u64]) -> Reply {
-    unsafe {
-        fundravai_open(
-            c,
-            o.log2_block,
-            o.table_end,
-            o.file_len,
-            o.records.as_ptr(),
-            o.records.len(),
-            o.listed.as_ptr(),
-            o.listed.len(),
-            scratch.as_mut_ptr(),
-            scratch.len(),
-        )
-    }
-}
-
-pub fn create(c: &mut Container, id: u64, tag: u32, name: &[u8]) -> Reply {
-    unsafe { fundravai_create(c, id, tag, name.as_ptr(), name.len()) }
-}
-
-pub fn grow(c: &mut Container, id: u64) -> Reply {
-    fundravai_grow(c, id)
-}
-
-pub fn drop(c: &mut Container, id: u64) -> Reply {
-    fundravai_drop(c, id)
-}
-
-pub fn publish(c: &mut Container, id: u64, len: u64) -> Reply {
-    fundravai_publish(c, id, len)
-}
-
-pub fn cap(c: &mut Container, tag: u32, max: Option<u64>) -> Reply {
-    fundravai_cap(c, tag, max.is_some(), max.unwrap_or(0))
-}
-
-pub fn locate(c: &Container, id: u64, pos: u64, n: u64) -> Reply {
-    fundravai_locate(c, id, pos, n)
-}
-
-pub fn held(c: &Container) -> u64 {
-    fundravai_held(c)
-}
-
-pub fn free(c: &Container) -> u64 {
-    fundravai_free(c)
-}
-
-/// Logical and physical.
-pub fn totals(c: &Container, tag: u32) -> (u64, u64) {
-    (fundravai_logical(c, tag), fundravai_physical(c, tag))
-}
-
-pub fn last_number(c: &Container) -> u64 {
-    fundravai_last_number(c)
-}
-
-pub fn region_count(c: &Container) -> usize {
-    fundravai_region_count(c)
-}
-
-/// The record of the region at place i goes to `record`, its extents to `out`.
-pub fn region(c: &Container, i: usize, record: &mut Record, out: &mut [u64]) -> Reply {
-    unsafe { fundravai_region(c, i, record, out.as_mut_ptr(), out.len()) }
+    let limits = (o.log2_block, o.table_end, o.file_len);
+    header::open(c.object_mut(), limits, o.records, o.listed, scratch)
 }
 
 /// Opens with lists of any length; the plan is handed back where it is accepted.

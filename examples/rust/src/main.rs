@@ -1,9 +1,7 @@
 //! A recorder's first steps: an empty container is opened, and a region created, grown, published and located.
 //! Each answer is a line of its own.
 
-mod container;
-
-use container::{Container, Refused};
+use fundravai::{Container, Refused};
 
 fn main() -> Result<(), Refused> {
     let mut c = Container::open((12, 8192, 106_496), &[], &[], &mut [])?;

@@ -6,7 +6,8 @@ use super::many::Many;
 use super::side::Side;
 use crate::flat::pairs;
 use crate::lent::Lent;
-use ours::plan::{self, Calls, Container, Lists, Plan, Positions, Reply};
+use fundravai::header::{self, Object, Reply};
+use ours::plan::{self, Calls, Container, Lists, Plan, Positions};
 
 /// How many numbers stand in front of the object and behind it.
 const AROUND: usize = 8;
@@ -75,9 +76,9 @@ fn answer(reply: Reply) -> Answer {
     }
 }
 
-fn flat(r: &Record) -> plan::Record {
+fn flat(r: &Record) -> header::Record {
     let (e, h) = (&r.entry, &r.header);
-    plan::Record {
+    header::Record {
         number: r.number,
         tag: r.tag,
         name: r.name.bytes,
@@ -101,7 +102,7 @@ fn flat(r: &Record) -> plan::Record {
     }
 }
 
-fn record(r: &plan::Record) -> Record {
+fn record(r: &header::Record) -> Record {
     Record {
         number: r.number,
         tag: r.tag,
@@ -191,6 +192,14 @@ impl Ours {
     fn container_mut(&mut self) -> &mut Container {
         assert!(self.opened, "it is opened");
         &mut self.held.container
+    }
+
+    fn object(&self) -> &Object {
+        self.container().object()
+    }
+
+    fn object_mut(&mut self) -> &mut Object {
+        self.container_mut().object_mut()
     }
 
     pub fn same_lists(&self, other: &Self) -> bool {
@@ -285,7 +294,7 @@ fn lend(lists: &mut Slots) -> Lists<'_> {
 
 impl Side for Ours {
     fn open(&mut self, opening: &Opening) -> Answer {
-        let records: Vec<plan::Record> = opening.records.iter().map(flat).collect();
+        let records: Vec<header::Record> = opening.records.iter().map(flat).collect();
         let limits = &opening.limits;
         let mut scratch = Lent::new(&vec![7; opening.scratch]);
         let given = plan::Opening {
@@ -314,7 +323,7 @@ impl Side for Ours {
 
     fn create(&mut self, id: u64, tag: u32, name: &[u8], lent: Places) -> Answer {
         let answer = if lent == Places::ALL {
-            answer(plan::create(self.container_mut(), id, tag, name))
+            answer(header::create(self.object_mut(), id, tag, name))
         } else {
             self.with_lists(("create", 0), lent, Writes::Nothing, (id, tag, name))
         };
@@ -323,7 +332,7 @@ impl Side for Ours {
 
     fn grow(&mut self, id: u64, lent: Places) -> Answer {
         let answer = if lent == Places::ALL {
-            answer(plan::grow(self.container_mut(), id))
+            answer(header::grow(self.object_mut(), id))
         } else {
             self.with_lists(("grow", 1), lent, Writes::Place, (id, 0, b""))
         };
@@ -331,13 +340,13 @@ impl Side for Ours {
     }
 
     fn publish(&mut self, id: u64, len: u64) -> Answer {
-        let answer = answer(plan::publish(self.container_mut(), id, len));
+        let answer = answer(header::publish(self.object_mut(), id, len));
         self.look("publish", answer, Writes::Nothing)
     }
 
     fn drop(&mut self, id: u64, lent: Places) -> Answer {
         let answer = if lent == Places::ALL {
-            answer(plan::drop(self.container_mut(), id))
+            answer(header::drop(self.object_mut(), id))
         } else {
             self.with_lists(("drop", 3), lent, Writes::Nothing, (id, 0, b""))
         };
@@ -345,13 +354,14 @@ impl Side for Ours {
     }
 
     fn cap(&mut self, tag: u32, max: Option<u64>) -> Answer {
-        let answer = answer(plan::cap(self.container_mut(), tag, max));
+        let (capped, limit) = (max.is_some(), max.unwrap_or(0));
+        let answer = answer(header::cap(self.object_mut(), tag, capped, limit));
         self.look("cap", answer, Writes::Nothing)
     }
 
     fn locate(&mut self, id: u64, pos: u64, n: u64, lent: Places) -> Answer {
         if lent == Places::ALL {
-            return answer(plan::locate(self.container(), id, pos, n));
+            return answer(header::locate(self.object(), id, pos, n));
         }
         let [_, starts, files] = self.lists(lent);
         let one = Positions {
@@ -367,39 +377,40 @@ impl Side for Ours {
     }
 
     fn held(&self) -> u64 {
-        plan::held(self.container())
+        header::held(self.object())
     }
 
     fn free(&self) -> u64 {
-        plan::free(self.container())
+        header::free(self.object())
     }
 
     fn totals(&self, tag: u32) -> (u64, u64) {
-        plan::totals(self.container(), tag)
+        let object = self.object();
+        (header::logical(object, tag), header::physical(object, tag))
     }
 
     fn last_number(&self) -> u64 {
-        plan::last_number(self.container())
+        header::last_number(self.object())
     }
 
     fn count(&self) -> usize {
-        plan::region_count(self.container())
+        header::region_count(self.object())
     }
 
     fn region(&self, i: usize) -> (Record, Vec<Range>) {
         let mut out = Lent::new(&[7; 2 * EXTENTS]);
-        let mut filed = plan::Record::default();
-        let reply = plan::region(self.container(), i, &mut filed, out.list());
+        let mut filed = header::Record::default();
+        let reply = header::region(self.object(), i, &mut filed, out.list());
         assert_eq!(answer(reply), Answer::Done);
         let out = out.back();
         let n = 2 * usize::from(filed.extent_count);
         assert!(out.len() == 2 * EXTENTS && out[n..].iter().all(|x| *x == 7));
         if n > 0 {
             // One place too few.
-            let (mut other, mut few) = (plan::Record::default(), vec![7; n - 2]);
-            let reply = plan::region(self.container(), i, &mut other, &mut few);
+            let (mut other, mut few) = (header::Record::default(), vec![7; n - 2]);
+            let reply = header::region(self.object(), i, &mut other, &mut few);
             assert_eq!(answer(reply), Answer::Refused(1));
-            assert!(other == plan::Record::default() && few.iter().all(|x| *x == 7));
+            assert!(other == header::Record::default() && few.iter().all(|x| *x == 7));
         }
         (record(&filed), pairs(&out[..n]))
     }
