@@ -39,8 +39,8 @@ fn parted(ranges: &mut [u64], depth: usize) -> Option<Cut>
 }
 
 impl Piece {
-    #[tactic(auto, unfolding(crate::specs::Inner::crowded))]
     // Whether the bytes from lo up to hi are too few for it beside those of the ranges.
+    #[tactic(auto, unfolding(crate::specs::Inner::crowded))]
     fn crowded(self, lo: u64, hi: u64, ranges: &[u64]) -> bool
         ensures { result ≡ crowded lo hi self.n (pairs ranges.now) }
     {
@@ -56,7 +56,8 @@ impl Piece {
         map.first_fit(gaps, self.n, self.block, 0)
     }
 
-    // The lowest place from lo on, below hi.
+    // The lowest place from lo on, below hi. Of the two parts the lower one is searched first, unless it is too
+    // crowded; where it has no place after all, the other is not parted any more.
     pub(crate) fn lowest(
         self,
         lo: u64,

@@ -215,6 +215,11 @@ pub fn compare(random: &mut Random, check: Check) -> Result<(), String> {
         let counts = vec![60 - i % 2; 1 + i % 64];
         check(&calls(of_counts(&counts, 12, random), 12, random))?;
     }
+    // among many ranges
+    for _ in 0..300 {
+        let n = 20 + random.below(40) as usize;
+        check(&calls(drawn(n, 4, random), 60, random))?;
+    }
     // long lists, so that containers fill up and fall to pieces
     for _ in 0..150 {
         check(&calls(empty(random), 400, random))?;

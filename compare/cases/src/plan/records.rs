@@ -122,7 +122,7 @@ fn extra(at: u64, block: u64, random: &mut Random) -> Range {
 pub fn of_counts(counts: &[usize], log2_block: u8, random: &mut Random) -> Told {
     let block = 1u64 << log2_block;
     let table_end = table_end(block, random);
-    let (touching, lengths) = (random.below(3), random.below(4));
+    let (touching, lengths) = (random.below(4), random.below(4));
     let far = random.below(40 * counts.len() as u64 + 1);
     let mut at = table_end;
     let (mut headers, mut extents) = (vec![vec![]; counts.len()], vec![vec![]; counts.len()]);
@@ -130,6 +130,8 @@ pub fn of_counts(counts: &[usize], log2_block: u8, random: &mut Random) -> Told 
         at += match touching {
             0 => 0,
             1 => one(&[0, 0, 0, 1, 4], random) * block,
+            // about as much as a create or a grow asks for
+            2 => one(&[0, 0, 1, 2, 15, 16, 17, 31, 32, 33], random) * block,
             _ => random.below(3 * block),
         };
         if i as u64 == far {

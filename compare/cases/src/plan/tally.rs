@@ -15,7 +15,7 @@ pub struct Tally {
 }
 
 /// What must have occurred beside the refusals.
-const WAYS: [&str; 45] = [
+const WAYS: [&str; 49] = [
     "open: no records",
     "open: 64 records",
     "open: an Append region",
@@ -37,6 +37,8 @@ const WAYS: [&str; 45] = [
     "create: behind all",
     "create: nothing left free",
     "create: below all",
+    "create: among more than 96 ranges",
+    "create: between more than 96 ranges",
     "create: the last number is then 2^64 - 1",
     "grow: joins its last extent",
     "grow: elsewhere",
@@ -45,6 +47,8 @@ const WAYS: [&str; 45] = [
     "grow: the 60th extent and run",
     "grow: below its span",
     "grow: within its span",
+    "grow: among more than 96 ranges",
+    "grow: between more than 96 ranges",
     "grow: nothing left free",
     "grow: a region from open",
     "cap: met exactly",
@@ -181,6 +185,7 @@ impl Tally {
             .collect();
         let (below, above) = (held.iter().any(|r| r.0 < at), held.iter().any(|r| r.0 > at));
         let nothing_left = step.after.free == 0;
+        let many = held.len() > 96;
         match step.call.expect("a call") {
             Call::Create { name, .. } => {
                 let ways = [
@@ -194,6 +199,11 @@ impl Tally {
                     ("create: behind all", below && !above),
                     ("create: nothing left free", nothing_left),
                     ("create: below all", above && !below),
+                    ("create: among more than 96 ranges", many),
+                    (
+                        "create: between more than 96 ranges",
+                        many && below && above,
+                    ),
                     (
                         "create: the last number is then 2^64 - 1",
                         step.after.last_number == u64::MAX,
@@ -222,6 +232,8 @@ impl Tally {
                     ),
                     ("grow: below its span", at < from),
                     ("grow: within its span", from < at && at < to),
+                    ("grow: among more than 96 ranges", many),
+                    ("grow: between more than 96 ranges", many && below && above),
                     ("grow: nothing left free", nothing_left),
                     ("grow: a region from open", opened),
                 ];
