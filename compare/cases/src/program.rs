@@ -143,9 +143,9 @@ pub fn bench(random: &mut Random) {
         ("  malformed lines", draw::malformed(lines)),
     ] {
         let path = stored("listing-bench.in", &input);
-        let ours = each(median(3, || (), |_| run(&path)));
+        let ours = each(median(7, || (), |_| run(&path)));
         let rust = each(median(
-            3,
+            7,
             || (),
             |_| {
                 std::hint::black_box(listing_in_place(&input));

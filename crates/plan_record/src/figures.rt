@@ -1,19 +1,18 @@
 // The bytes that are held and free.
-ghost use Rattle.std.specs.Prelude.{◌≡◌, ◌+◌, fold, map};
-ghost use Rattle.numbers.specs.Sums.{stop, sum};
-ghost use Rattle.plan_record.specs.Plan.{regions_of};
-ghost use Rattle.plan_record.specs.Inner.{held_by};
+ghost use Rattle.std.specs.Prelude.{◌≡◌, ◌+◌, fold};
+ghost use Rattle.numbers.specs.Sums.{stop};
 ghost use Rattle.plan_record.specs.Promises.{HeldTold, FreeTold, LogicalTold, PhysicalTold, LastTold, CountTold};
 
 use crate::{Plan, Region};
 use footprint::block_of;
 
-// What regions hold together: two is two blocks.
-fn held_by(regions: &[Region], two: u64) -> u64
-    ensures { result ≡ fold (λ s r. stop (stop (s + two) + r.map.capacity)) 0 regions.now }
+// The capacities of regions together, as two numbers: two sums take turns, so that no addition waits for the one
+// before it.
+fn capacities(regions: &[Region]) -> (u64, u64)
+    ensures { result ≡ fold (λ s r. (s.1, stop (s.0 + r.map.capacity))) (0, 0) regions.now }
 {
-    regions.iter().fold(0u64, |sum, region| {
-        sum.saturating_add(two).saturating_add(region.map.capacity)
+    regions.iter().fold((0u64, 0u64), |(sum, other), region| {
+        (other, sum.saturating_add(region.map.capacity))
     })
 }
 
@@ -23,7 +22,9 @@ impl Plan {
         ensures { HeldTold self.now result }
     {
         let two = 2 * block_of(self.limits.log2_block);
-        held_by(&self.regions[..self.counted()], two)
+        let count = self.counted();
+        let (a, b) = capacities(&self.regions[..count]);
+        (two * count as u64).saturating_add(a).saturating_add(b)
     }
 
     // The held bytes, and what they leave of the container behind its table.
