@@ -263,6 +263,9 @@ pub fn sample(random: &mut Random) -> String {
     }
     text.case(&calls(of_counts(&[1; REGIONS], 12, random), 6, random));
     text.case(&calls(of_counts(&[EXTENTS; 2], 13, random), 6, random));
+    for _ in 0..3 {
+        text.case(&calls(of_counts(&[3; 30], 12, random), 20, random));
+    }
     for ((name, can), seen) in CALLS.iter().zip(&text.seen) {
         let never = can.iter().find(|k| seen[**k] == 0);
         assert!(never.is_none(), "no {name} is answered with {never:?}");
