@@ -59,6 +59,7 @@ module _ (lo hi n block : ℕ) where
         let b = length_pairs gs₀ in
         simp (even_list s e, le-ltb (length (pairs gs₀)) (length (pairs s) + 1) (omega (arith, g.1)))
 
+    -- `complement` is not refused
     pub all_taken : (r : Result FreeMap Refusal) (m : Refusal) (f : Result (Option ℕ) Refusal) → Complemented lo hi s rs gs₀ gs r → r ≡ Err m → Sought lo hi n block (pairs s) f
     all_taken r m f d e =
         let c = subst (λ (r : Result FreeMap Refusal). Complemented lo hi s rs gs₀ gs r) e d in
@@ -83,91 +84,90 @@ none_told lo hi n block l e =
 
 -- ---- in two parts
 
-module _ (lo hi n block : ℕ) where
-  module _ (l : List Range) where
-    module _ (m : List Range) (mid k : ℕ) (c : PartedAt l m mid k) where
-      module _ (a : Asked lo hi n block l) where
-        apart : Parted lo mid hi (take k m) (drop k m)
-        apart = parted lo mid hi k l m c a.inside a.some a.apart
+module _ (lo hi n block : ℕ) (l : List Range) where
+  -- what a search among all may take as given, one of either part may
+  module _ (m : List Range) (mid k : ℕ) (c : PartedAt l m mid k) (a : Asked lo hi n block l) where
+    apart : Parted lo mid hi (take k m) (drop k m)
+    apart = parted lo mid hi k l m c a.inside a.some a.apart
 
-        sums : hi + (block - 1) ≤ top
-        sums = omega (arith, a.sums)
+    sums : hi + (block - 1) ≤ top
+    sums = omega (arith, a.sums)
 
-        front_asked : Asked lo mid n block (take k m)
-        front_asked =
-            let g = apart in
-            let h = (bounds n block lo mid hi a.bytes (power_some block a.power) sums _ _ g).1 in
-            record {
-              bytes = a.bytes;
-              power = a.power;
-              sums = omega (arith, a.sums);
-              inside = below n block lo mid hi a.bytes (power_some block a.power) sums _ _ g;
-              some = all_left (λ (r : Range). 0 < r.len) (take k m) (drop k m) g.some;
-              apart = disjoint_left (take k m) (drop k m) g.apart;
-            }
+    front_asked : Asked lo mid n block (take k m)
+    front_asked =
+        let g = apart in
+        let h = (bounds n block lo mid hi a.bytes (power_some block a.power) sums _ _ g).1 in
+        record {
+          bytes = a.bytes;
+          power = a.power;
+          sums = omega (arith, a.sums);
+          inside = below n block lo mid hi a.bytes (power_some block a.power) sums _ _ g;
+          some = all_left (λ (r : Range). 0 < r.len) (take k m) (drop k m) g.some;
+          apart = disjoint_left (take k m) (drop k m) g.apart;
+        }
 
-        back_asked : Asked mid hi n block (drop k m)
-        back_asked =
-            let g = apart in
-            record {
-              bytes = a.bytes;
-              power = a.power;
-              sums = a.sums;
-              inside = above n block lo mid hi a.bytes (power_some block a.power) sums _ _ g;
-              some = all_right (λ (r : Range). 0 < r.len) (take k m) (drop k m) g.some;
-              apart = disjoint_right (take k m) (drop k m) g.apart;
-            }
+    back_asked : Asked mid hi n block (drop k m)
+    back_asked =
+        let g = apart in
+        record {
+          bytes = a.bytes;
+          power = a.power;
+          sums = a.sums;
+          inside = above n block lo mid hi a.bytes (power_some block a.power) sums _ _ g;
+          some = all_right (λ (r : Range). 0 < r.len) (take k m) (drop k m) g.some;
+          apart = disjoint_right (take k m) (drop k m) g.apart;
+        }
 
-    module _ (s : List ℕ) (mid k : ℕ) (c : PartedAt l (pairs s) mid k) where
-      abbrev m : List Range
-      m = pairs s
+  module _ (s : List ℕ) (mid k : ℕ) (c : PartedAt l (pairs s) mid k) where
+    abbrev m : List Range
+    m = pairs s
 
-      -- as the code has it
-      abbrev j : ℕ
-      j = 2 * k - 0
+    -- as the code has it
+    abbrev j : ℕ
+    j = 2 * k - 0
 
-      j-is : j ≡ 2 * k
-      j-is = omega arith
+    j-is : j ≡ 2 * k
+    j-is = omega arith
 
-      -- a search has answered r of the front
-      module _ (r : Result (Option ℕ) Refusal) (f : Sought lo mid n block (pairs (take j s)) r) where
-        front : Asked lo hi n block l → told r ≡ accepted (first_fit n block 0 (gaps_of lo mid (take k m)))
-        front a =
-            let g = subst (λ (rs : List Range). Sought lo mid n block rs r) (front_pairs s k j j-is c.inside) f in
-            g.told (front_asked m mid k c a)
+    -- a search has answered r of the front
+    module _ (r : Result (Option ℕ) Refusal) (f : Sought lo mid n block (pairs (take j s)) r) where
+      front : Asked lo hi n block l → told r ≡ accepted (first_fit n block 0 (gaps_of lo mid (take k m)))
+      front a =
+          let g = subst (λ (rs : List Range). Sought lo mid n block rs r) (front_pairs s k j j-is c.inside) f in
+          g.told (front_asked m mid k c a)
 
-        pub found_told : (at : ℕ) → r ≡ Ok (Some at) → Sought lo hi n block l (Ok (Some at))
-        found_told at e =
-            record {
-              told = λ a.
-                  let q = same_value _ _ (ap told (sym e) ∙ front a) in
-                  ap accepted
-                  (sym (ap (first_fit n block 0) (gaps_parted lo mid hi k l m c)
-                  ∙ front_found n block lo mid hi a.bytes (power_some block a.power) (sums m mid k c a) _ _ (apart m mid k c a) at (sym q)));
-            }
+      pub found_told : (at : ℕ) → r ≡ Ok (Some at) → Sought lo hi n block l (Ok (Some at))
+      found_told at e =
+          record {
+            told = λ a.
+                let q = same_value _ _ (ap told (sym e) ∙ front a) in
+                ap accepted
+                (sym (ap (first_fit n block 0) (gaps_parted lo mid hi k l m c)
+                ∙ front_found n block lo mid hi a.bytes (power_some block a.power) (sums m mid k c a) _ _ (apart m mid k c a) at (sym q)));
+          }
 
-        -- no search is refused
-        pub refused_told : (e : Refusal) → r ≡ Err e → (q : Result (Option ℕ) Refusal) → Sought lo hi n block l q
-        refused_told e w q = record { told = λ a. absurd (not_both _ (refusal_number e) (sym (front a) ∙ ap told w)) }
+      -- no search is refused
+      pub refused_told : (e : Refusal) → r ≡ Err e → (q : Result (Option ℕ) Refusal) → Sought lo hi n block l q
+      refused_told e w q = record { told = λ a. absurd (not_both _ (refusal_number e) (sym (front a) ∙ ap told w)) }
 
-        -- it goes on behind, in a list t
-        behind : r ≡ Ok None → (t : List ℕ) → pairs t ≡ drop k m → (q : Result (Option ℕ) Refusal) → Sought mid hi n block (pairs t) q → Sought lo hi n block l q
-        behind e t d q w =
-            let g = subst (λ (rs : List Range). Sought mid hi n block rs q) d w in
-            record {
-              told = λ a.
-                  let z = same_value _ _ (ap told (sym e) ∙ front a) in
-                  g.told (back_asked m mid k c a)
-                  ∙ ap accepted
-                  (sym (ap (first_fit n block 0) (gaps_parted lo mid hi k l m c)
-                  ∙ front_none n block lo mid hi a.bytes (power_some block a.power) (sums m mid k c a) _ _ (apart m mid k c a) (sym z)));
-            }
+      -- it goes on behind, in a list t
+      behind : r ≡ Ok None → (t : List ℕ) → pairs t ≡ drop k m → (q : Result (Option ℕ) Refusal) → Sought mid hi n block (pairs t) q → Sought lo hi n block l q
+      behind e t d q w =
+          let g = subst (λ (rs : List Range). Sought mid hi n block rs q) d w in
+          record {
+            told = λ a.
+                let z = same_value _ _ (ap told (sym e) ∙ front a) in
+                g.told (back_asked m mid k c a)
+                ∙ ap accepted
+                (sym (ap (first_fit n block 0) (gaps_parted lo mid hi k l m c)
+                ∙ front_none n block lo mid hi a.bytes (power_some block a.power) (sums m mid k c a) _ _ (apart m mid k c a) (sym z)));
+          }
 
-        pub behind_told : r ≡ Ok None → (ys : List ℕ) → length ys ≡ length (take j s) → (q : Result (Option ℕ) Refusal)
-            → Sought mid hi n block (pairs (take (length (ys ++ drop j s) - 2 * k) (drop (2 * k) (ys ++ drop j s)))) q → Sought lo hi n block l q
-        behind_told e ys long = behind e _ (left_pairs s k j j-is c.inside ys long)
+      pub behind_told : r ≡ Ok None → (ys : List ℕ) → length ys ≡ length (take j s) → (q : Result (Option ℕ) Refusal)
+          → Sought mid hi n block (pairs (take (length (ys ++ drop j s) - 2 * k) (drop (2 * k) (ys ++ drop j s)))) q → Sought lo hi n block l q
+      behind_told e ys long = behind e _ (left_pairs s k j j-is c.inside ys long)
 
-      -- too few bytes are free in the front
-      pub passed_told : crowded lo mid n (pairs (take j s)) ≡ true → (q : Result (Option ℕ) Refusal)
-          → Sought mid hi n block (pairs (take (length s - 2 * k) (drop (2 * k) s))) q → Sought lo hi n block l q
-      passed_told e = behind (Ok None) (none_told lo mid n block _ e) refl _ (rest_pairs s k j j-is c.inside)
+    -- too few bytes are free in the front
+    pub passed_told : crowded lo mid n (pairs (take j s)) ≡ true → (q : Result (Option ℕ) Refusal)
+        → Sought mid hi n block (pairs (take (length s - 2 * k) (drop (2 * k) s))) q → Sought lo hi n block l q
+    passed_told e = behind (Ok None) (none_told lo mid n block _ e) refl _ (rest_pairs s k j j-is c.inside)
