@@ -47,7 +47,7 @@ pub record Parted (lo mid hi : ℕ) (fs bs : List Range) : Type 0 where
   pub high : All (λ (r : Range). mid ≤ r.offset) bs
   pub one : Any (λ (r : Range). r.offset ≡ mid) (fs ++ bs)
 
--- so of a list that was parted
+-- of a list that `part_pairs` has parted
 module _ (lo mid hi k : ℕ) (l m : List Range) (c : PartedAt l m mid k) where
   pub parted : All (Within lo hi) l → All (λ (r : Range). 0 < r.len) l → Disjoint l → Parted lo mid hi (take k m) (drop k m)
   parted a b d =
@@ -67,9 +67,6 @@ module _ (lo mid hi k : ℕ) (l m : List Range) (c : PartedAt l m mid k) where
       gaps_same lo hi l m (λ b f u. sym (test_same (λ (r : Range). has r b) l m c.same)) ∙ ap (gaps_of lo hi) (sym (take-append-drop k m))
 
 module _ (n align lo mid hi : ℕ) (pos : 0 < n) (any : 0 < align) (sums : hi + (align - 1) ≤ top) (fs bs : List Range) (g : Parted lo mid hi fs bs) where
-  small : hi ≤ top
-  small = omega arith
-
   record Begins : Type 0 where
     place : ℕ
     inside : place < length bs
@@ -102,7 +99,7 @@ module _ (n align lo mid hi : ℕ) (pos : 0 < n) (any : 0 < align) (sums : hi + 
   taken : Covered bs mid
   taken = any_of (λ (r : Range). Has r mid) bs begins.place blank begins.inside mid_in
 
-  pub bounds : (lo < mid + 1) × (mid < hi)
+  pub bounds : (lo ≤ mid) × (mid < hi)
   bounds = let b = begins in let l = b.within.from in let u = b.within.upto in (omega (arith, b.at), omega (arith, b.at, b.some))
 
   -- none of the first passes mid
@@ -117,7 +114,8 @@ module _ (n align lo mid hi : ℕ) (pos : 0 < n) (any : 0 < align) (sums : hi + 
       by_lt mid (r.offset + r.len)
       (λ k.
       let e = end_exact r (omega arith) in
-      absurd (all_at (λ (r : Range). Meet r (get_or bs begins.place blank) → ⊥) fs i blank begins.alone h (record { byte = mid; left = record { from = omega arith; upto = omega arith }; right = mid_in })))
+      let shared : Meet r (get_or bs begins.place blank) = record { byte = mid; left = record { from = omega arith; upto = omega arith }; right = mid_in } in
+      absurd (all_at (λ (r : Range). Meet r (get_or bs begins.place blank) → ⊥) fs i blank begins.alone h shared))
       (λ k. k))
 
   pub below : All (Within lo mid) fs

@@ -1,7 +1,7 @@
 // The pairs of a slice in two parts, for a search that need not have them in order.
-ghost use Rattle.std.specs.Prelude.{◌≡◌, MatchOption};
+ghost use Rattle.std.specs.Prelude.{◌≡◌, MatchOption, is_none};
 ghost use Rattle.numbers.specs.Pairs.{pairs};
-ghost use Rattle.sort.specs.Part.{PartedAt};
+ghost use Rattle.sort.specs.Part.{PartedAt, whole};
 
 use crate::pair::Pair;
 use crate::split::{partition, pivot};
@@ -13,12 +13,16 @@ pub struct Part {
     pub front: usize,
 }
 
-// Parts the pairs at the offset of one that is likely to stand near the middle of the sorted list; a list of
-// 16 pairs at most, or of odd length, stays as it is.
+// Parts the pairs at the offset of one that is likely to stand near the middle of the sorted list; a list of odd
+// length, or of 16 pairs at most, is left whole.
 pub fn part_pairs(s: &mut [u64]) -> Option<Part>
-    ensures { MatchOption result (s.new ≡ s.old) (λ p. PartedAt (pairs s.old) (pairs s.new) p.offset p.front) }
+    ensures none { is_none result ≡ whole s.old }
+    ensures parted { MatchOption result (s.new ≡ s.old) (λ p. PartedAt (pairs s.old) (pairs s.new) p.offset p.front) }
 {
-    if s.len() % 2 != 0 || s.len() < 34 {
+    if s.len() % 2 != 0 {
+        return None;
+    }
+    if s.len() < 34 {
         return None;
     }
     let offset = pivot(s).left;
