@@ -2,7 +2,10 @@
 use Rattle.std.proofs.Common.{ℕ, ◌+◌, ◌<◌, ◌≤◌, List, [], ◌∷◌, ◌≡◌, length, get_or, drop, ap, ◌∙◌}
 use lib.ListN.{drop_of_length-le}
 use lib.Seq.{drop-drop}
-use Rattle.exports.specs.Each.{questions}
+use Rattle.std.specs.Prelude.{Result}
+use Rattle.exports.specs.Each.{Locating, Locate, LocatedEach, questions}
+use Rattle.flat.specs.Chain.{Chain}
+use Rattle.numbers.specs.declared.refusal.Refusal.{Refusal}
 use Rattle.numbers.specs.Pairs.{chunk_range, ranges_in}
 use Rattle.numbers.specs.Range.{Range, blank}
 use Rattle.numbers.proofs.Chunks.{chunk_at, length_ranges}
@@ -29,3 +32,15 @@ module _ (cs : List (List ℕ)) (i : ℕ) where
 
   pub chunks_end : length cs ≤ i → drop i (ranges_in cs) ≡ []
   chunks_end h = drop_of_length-le (ranges_in cs) {i = i} (rw (length_ranges cs) h)
+
+-- ---- a weaker promise
+
+module _ (P Q : ℕ → Result ℕ Refusal → Type 0) (f : (p : ℕ) (r : Result ℕ Refusal) → P p r → Q p r) where
+  chain_as : (ps : List ℕ) (s t : Locating) → Chain (Locate P) ps s t → Chain (Locate Q) ps s t
+  chain_as [] s t e = e
+  chain_as (p ∷ ps) s t c =
+      let l = c.1 in
+      (c.0, record { place = l.place; promise = f p l.place l.promise; bytes = l.bytes; next = l.next; count = l.count }, chain_as ps c.0 t c.2)
+
+  pub located_as : (ps bs₀ bs : List ℕ) (r : ℕ) → LocatedEach P ps bs₀ bs r → LocatedEach Q ps bs₀ bs r
+  located_as ps bs₀ bs r l = record { short = l.short; each = λ e. chain_as ps _ _ (l.each e) }

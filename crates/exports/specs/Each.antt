@@ -15,7 +15,9 @@ use Rattle.numbers.specs.Range.{Range}
 use Rattle.numbers.specs.Refusals.{value_or, told, refusal_in}
 use Rattle.numbers.specs.declared.refusal.Refusal.{Refusal}
 use Rattle.regionmap.specs.Map.{Published, Extended, Answered}
+use Rattle.regionmap.specs.RunRecords.{AnsweredAmong}
 use Rattle.regionmap.specs.declared.RegionMap.{RegionMap}
+use Rattle.runs.specs.declared.Run.{Run}
 use Rattle.tagspace.specs.Row.{add_usage, remove_usage}
 use Rattle.tagspace.specs.declared.TagSpace.{TagSpace}
 
@@ -66,18 +68,25 @@ abbrev pub noted : Result ℕ Refusal → ℕ → List ℕ → List ℕ
 noted (Ok b) i bs = set bs i b
 noted (Err e) i bs = bs
 
--- One call of `locate` on a map with its lists, of length n.
-pub record Locate (m : RegionMap) (ss fs : List ℕ) (n p : ℕ) (s t : Locating) : Type 0 where
+-- One lookup of a position p, whose answer P promises.
+pub record Locate (P : ℕ → Result ℕ Refusal → Type 0) (p : ℕ) (s t : Locating) : Type 0 where
   pub place : Result ℕ Refusal
-  pub promise : Answered m p n ss fs place
+  pub promise : P p place
   pub bytes : t.bytes ≡ noted place s.asked s.bytes
   pub next : t.asked ≡ s.asked + 1
   pub count : t.located ≡ s.located + cond (is_ok place) 1 0
 
 -- Nothing is asked where there are fewer places for bytes than positions.
-pub record LocatedEach (m : RegionMap) (ss fs ps : List ℕ) (n : ℕ) (bs₀ bs : List ℕ) (r : ℕ) : Type 0 where
+pub record LocatedEach (P : ℕ → Result ℕ Refusal → Type 0) (ps bs₀ bs : List ℕ) (r : ℕ) : Type 0 where
   pub short : ltb (length bs₀) (length ps) ≡ true → (r ≡ 0) × (bs ≡ bs₀)
-  pub each : ltb (length bs₀) (length ps) ≡ false → Chain (Locate m ss fs n) ps (locating bs₀ 0 0) (locating bs (length ps) r)
+  pub each : ltb (length bs₀) (length ps) ≡ false → Chain (Locate P) ps (locating bs₀ 0 0) (locating bs (length ps) r)
+
+-- The promise of each lookup, on a map with its lists and among run records.
+abbrev pub on_map : RegionMap → List ℕ → List ℕ → ℕ → ℕ → Result ℕ Refusal → Type 0
+on_map m ss fs n p r = Answered m p n ss fs r
+
+abbrev pub among_runs : List Run → ℕ → ℕ → ℕ → Result ℕ Refusal → Type 0
+among_runs rs len n p r = AnsweredAmong rs len p n r
 
 -- ---- the accounts
 
@@ -99,6 +108,10 @@ Post remove u s t = Posts s.accounts (on_row u.tag (rule_of remove u)) t
 pub record PostsEach (bad remove : Bool) (us : List Usage) (flat : FlatAccounting) (a : Accounting) (r : FlatPosted) : Type 0 where
   pub refused : bad ≡ true → r ≡ record { refusal = 1; accounts = flat }
   pub each : bad ≡ false → Flattened flat_posted (Chain (Post remove) us (unposted a)) r
+
+-- One usage more, its data bytes and those that it occupies, on a row by itself.
+abbrev pub CountRow : Range → TagSpace → TagSpace → Type 0
+CountRow u s t = t ≡ add_usage u.offset u.len s
 
 -- A tag, and what is asked for.
 pub record Question : Type 0 where

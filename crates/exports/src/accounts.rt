@@ -4,7 +4,9 @@ ghost use Rattle.accounting.specs.Entries.{Counts, no_tags, usages, ready_usages
 ghost use Rattle.tagspace.specs.Extent.{extent_len};
 ghost use Rattle.tagspace.specs.Row.{blank, add_usage, remove_usage, reserve, unreserve, set_cap, fits};
 ghost use Rattle.accounting.specs.Table.{Valid, Posts, Asks, accounts_of, table_of, on_row, reserving, unreserving, row_of};
-ghost use Rattle.exports.specs.Each.{PostsEach, questions, AsksEach};
+ghost use Rattle.exports.specs.Each.{PostsEach, CountRow, questions, AsksEach};
+ghost use Rattle.flat.specs.Chain.{Chain};
+ghost use Rattle.numbers.specs.Pairs.{pairs};
 ghost use Rattle.exports.specs.Flat.{flat_of, Flattened};
 ghost use Rattle.flat.specs.Flat.{cap_from, row_from, accounts_from, flat_row, flat_accounts};
 ghost use Rattle.exports.specs.Accounts.{flat_posted, flat_asked};
@@ -259,7 +261,25 @@ pub extern "C" fn fundravai_row_fits(flat: FlatRow, extra: u64) -> bool
     TagSpace::from(flat).fits(extra)
 }
 
-// The next two are for the benchmark, where putting the accounts into flat numbers and back would cost
+#[unsafe(no_mangle)]
+pub extern "C" fn fundravai_row_count_usage(flat: &mut FlatRow, logical: u64, physical: u64)
+    ensures { flat.new ≡ flat_row (add_usage logical physical (row_from flat.old)) }
+{
+    let mut row = TagSpace::from(*flat);
+    row.count_usage(logical, physical);
+    *flat = row.into();
+}
+
+#[unsafe(no_mangle)]
+pub extern "C" fn fundravai_row_uncount_usage(flat: &mut FlatRow, logical: u64, physical: u64)
+    ensures { flat.new ≡ flat_row (remove_usage logical physical (row_from flat.old)) }
+{
+    let mut row = TagSpace::from(*flat);
+    row.uncount_usage(logical, physical);
+    *flat = row.into();
+}
+
+// The next five are for the benchmark, where putting the accounts into flat numbers and back would cost
 // more than a posting.
 
 // Adds or removes each usage in turn, which a flag says, since C has no closure; hands back what the last
@@ -324,4 +344,62 @@ pub extern "C" fn fundravai_accounts_fits_each(
         refusal: number_in(asked.answer),
         value: fit,
     }
+}
+
+// The same of accounts that stay where they are.
+#[tactic(auto, using(accounting::proofs::Counting::usages_next, accounting::proofs::Counting::usages_end, accounting::proofs::Counting::differ_none, accounting::proofs::Counting::differ_second, accounting::proofs::Counting::differ_third))]
+#[unsafe(no_mangle)]
+pub extern "C" fn fundravai_accounts_count_each(
+    flat: FlatAccounting,
+    remove: bool,
+    tags: &[u32],
+    logical: &[u64],
+    physical: &[u64],
+) -> FlatPosted
+    ensures { PostsEach (differ tags.now logical.now physical.now) remove (usages tags.now logical.now physical.now) flat (accounts_from flat) result }
+{
+    if tags.len() != logical.len() || tags.len() != physical.len() {
+        return FlatPosted {
+            refusal: Refusal::Lists.number(),
+            accounts: flat,
+        };
+    }
+    let mut accounts = Accounting::from(flat);
+    let mut answer = Ok(());
+    for i in 0..tags.len() {
+        answer = if remove {
+            accounts.uncount_usage(tags[i], logical[i], physical[i])
+        } else {
+            accounts.count_usage(tags[i], logical[i], physical[i])
+        };
+    }
+    Posted { answer, accounts }.into()
+}
+
+// Counts usages, each its data bytes and those that it occupies, on a row that is lent.
+#[tactic(auto, using(crate::proofs::Chaining::chunk_next, crate::proofs::Chaining::chunks_end, numbers::proofs::Chunks::chunk_pairs))]
+#[unsafe(no_mangle)]
+pub extern "C" fn fundravai_row_count_each(flat: &mut FlatRow, usages: &[u64])
+    ensures { Flattened flat_row (Chain CountRow (pairs usages.now) (row_from flat.old)) flat.new }
+{
+    let mut row = TagSpace::from(*flat);
+    let (usages, _) = usages.as_chunks::<2>();
+    for &[logical, physical] in usages {
+        row.count_usage(logical, physical);
+    }
+    *flat = row.into();
+}
+
+// The same on a row by value.
+#[tactic(auto, using(crate::proofs::Chaining::chunk_next, crate::proofs::Chaining::chunks_end, numbers::proofs::Chunks::chunk_pairs))]
+#[unsafe(no_mangle)]
+pub extern "C" fn fundravai_row_add_each(flat: FlatRow, usages: &[u64]) -> FlatRow
+    ensures { Flattened flat_row (Chain CountRow (pairs usages.now) (row_from flat)) result }
+{
+    let mut row = TagSpace::from(flat);
+    let (usages, _) = usages.as_chunks::<2>();
+    for &[logical, physical] in usages {
+        row = row.add_usage(logical, physical);
+    }
+    row.into()
 }

@@ -2,14 +2,16 @@
 // data's length, the capacity, the runs after the first, and the room for them.
 ghost use Rattle.std.specs.Prelude.{◌≡◌};
 ghost use Rattle.regionmap.specs.Map.{Made, Roomed, Published, Extended, Answered, Written};
+ghost use Rattle.regionmap.specs.RunRecords.{AnsweredAmong};
 ghost use Rattle.numbers.specs.Pairs.{pairs};
 ghost use Rattle.flat.specs.Chain.{Chain};
-ghost use Rattle.exports.specs.Each.{Extend, extending, Publish, publishing, LocatedEach};
+ghost use Rattle.exports.specs.Each.{Extend, extending, Publish, publishing, LocatedEach, on_map, among_runs};
 ghost use Rattle.exports.specs.Flat.{flat_answer, flat_told, map_from, HandedOut, Flattened, FlatHanded};
 
 use crate::FlatAnswer;
 use numbers::{Refusal, number_in};
-use regionmap::RegionMap;
+use regionmap::{RegionMap, locate_among};
+use runs::Run;
 
 // A map's numbers stand by themselves in each signature, since the C interface has them so.
 fn map_from(first: u64, published: u64, capacity: u64, count: usize, room: usize) -> RegionMap
@@ -136,6 +138,18 @@ pub extern "C" fn fundravai_map_locate(
 }
 
 #[unsafe(no_mangle)]
+pub extern "C" fn fundravai_locate_among(
+    runs: &[Run],
+    published: u64,
+    pos: u64,
+    n: u64,
+) -> FlatAnswer
+    ensures { Flattened flat_told (AnsweredAmong runs.now published pos n) result }
+{
+    locate_among(runs, published, pos, n).into()
+}
+
+#[unsafe(no_mangle)]
 pub extern "C" fn fundravai_map_runs(
     first: u64,
     published: u64,
@@ -152,9 +166,30 @@ pub extern "C" fn fundravai_map_runs(
     map.runs(starts, files, out).into()
 }
 
-// The next three are for the benchmark, where a call from Rust would cost more than the work.
+// The next five are for the benchmark, where a call from Rust would cost more than the work.
 
 // Locates each position, and answers how many were located; none where bytes has too few places.
+fn locate_each<F: Fn(u64) -> Result<u64, Refusal>>(
+    positions: &[u64],
+    bytes: &mut [u64],
+    locate: F,
+) -> u64
+    requires { F.IsAlwaysCallable locate }
+    ensures { LocatedEach (λ p r. F.post locate p r) positions.now bytes.old bytes.new result }
+{
+    if bytes.len() < positions.len() {
+        return 0;
+    }
+    let mut located = 0;
+    for (i, &pos) in positions.iter().enumerate() {
+        if let Ok(byte) = locate(pos) {
+            bytes[i] = byte;
+            located += 1;
+        }
+    }
+    located
+}
+
 #[unsafe(no_mangle)]
 pub extern "C" fn fundravai_map_locate_each(
     first: u64,
@@ -168,20 +203,28 @@ pub extern "C" fn fundravai_map_locate_each(
     n: u64,
     bytes: &mut [u64],
 ) -> u64
-    ensures { LocatedEach (map_from first published capacity count room) starts.now files.now positions.now n bytes.old bytes.new result }
+    ensures { LocatedEach (on_map (map_from first published capacity count room) starts.now files.now n) positions.now bytes.old bytes.new result }
 {
     let map = map_from(first, published, capacity, count, room);
-    if bytes.len() < positions.len() {
-        return 0;
-    }
-    let mut located = 0;
-    for (i, &pos) in positions.iter().enumerate() {
-        if let Ok(byte) = map.locate(starts, files, pos, n) {
-            bytes[i] = byte;
-            located += 1;
-        }
-    }
-    located
+    locate_each(positions, bytes, |pos| map.locate(starts, files, pos, n))
+}
+
+// The same among run records.
+#[unsafe(no_mangle)]
+pub extern "C" fn fundravai_locate_among_each(
+    runs: &[Run],
+    published: u64,
+    positions: &[u64],
+    n: u64,
+    bytes: &mut [u64],
+) -> u64
+    ensures { LocatedEach (among_runs runs.now published n) positions.now bytes.old bytes.new result }
+{
+    locate_each(
+        positions,
+        bytes,
+        |pos| locate_among(runs, published, pos, n),
+    )
 }
 
 // Extends by each pair of extents, and answers how many were accepted.

@@ -14,7 +14,8 @@ use Rattle.numbers.specs.Range.{Range, Within, total}
 use Rattle.numbers.specs.Refusals.{accepted, refused, refuse, first}
 use Rattle.numbers.specs.Sums.{top}
 use Rattle.regionmap.specs.Map.{run_of}
-use Rattle.runs.specs.Runs.{Run, runs_of, byte_of, run_byte}
+use Rattle.runs.specs.declared.Run.{Run}
+use Rattle.runs.specs.Runs.{runs_of, byte_of, run_byte}
 use Rattle.model.proofs.Figures.{capacity_most}
 use Rattle.model.proofs.Regions.{known_true, all_region}
 use Rattle.model.proofs.Sound.{Regular, Sound}

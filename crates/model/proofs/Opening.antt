@@ -27,7 +27,8 @@ use Rattle.model.proofs.Rows.{with_order, with_own, with_others}
 use Rattle.model.proofs.Sound.{Regular, Sound}
 use Rattle.numbers.proofs.Cases.{or-false}
 use Rattle.numbers.proofs.Keyed.{put_least}
-use Rattle.numbers.proofs.Lists.{all_at, all_of, all_imp, all_both, map_all, any_false, of_none, mapped_at, at_distinct, distinct_at}
+use Rattle.std.proofs.lemmas.List.{get_or-map}
+use Rattle.numbers.proofs.Lists.{all_at, all_of, all_imp, all_both, map_all, any_false, of_none, at_distinct, distinct_at}
 use Rattle.numbers.proofs.Refusals.{first_none, none_first, pass_none, refuse_none, first_all}
 use Rattle.settle.proofs.Marking.{marks_length, mark_at}
 use Rattle.settle.proofs.Unmarked.{ranges_of, NamesDiffer, none_superseded, marks_none, none_marks}
@@ -203,13 +204,13 @@ module _ (us : List settling.Region) where
       let n = length-map us name_of in
       let a : i < length us = omega arith in
       let b : j < length us = omega arith in
-      f i j a b (λ z. omega arith) (sym (mapped_at name_of us i no_region [] a) ∙ e ∙ mapped_at name_of us j no_region [] b))
+      f i j a b (λ z. omega arith) (sym (get_or-map name_of us i no_region [] a) ∙ e ∙ get_or-map name_of us j no_region [] b))
 
   names_differ : Distinct (map name_of us) → NamesDiffer us
   names_differ d i j a b n e =
       let l = length-map us name_of in
       distinct_at (map name_of us) [] i j d (omega arith) (omega arith) n
-      (mapped_at name_of us i no_region [] a ∙ e ∙ sym (mapped_at name_of us j no_region [] b))
+      (get_or-map name_of us i no_region [] a ∙ e ∙ sym (get_or-map name_of us j no_region [] b))
 
 two_bits : (o r : Bool) → mark_of o r false % 4 ≡ 0 → mark_of o r false ≡ 0
 two_bits true true z = absurd (omega arith)

@@ -11,7 +11,8 @@ use Rattle.numbers.specs.Range.{range}
 use Rattle.numbers.specs.Refusals.{refuse, first, Answer, answer, number_of, value_or}
 use Rattle.numbers.specs.Sums.{top}
 use Rattle.regionmap.specs.Map.{run_of}
-use Rattle.runs.specs.Runs.{Run, runs_of, run_byte}
+use Rattle.runs.specs.declared.Run.{Run}
+use Rattle.runs.specs.Runs.{runs_of, run_byte}
 use Rattle.tagspace.specs.Row.{fits}
 
 pub data Call : Type 0 where

@@ -5,7 +5,7 @@ use mathlib.Core.List.{List}
 use mathlib.Core.Path.{◌≡◌}
 use native.Mathlib.Omega.{arith}
 use lib.Dec.{leb}
-use lib.ListN.{length, get_or}
+use lib.ListN.{get_or}
 use borrow.Author.Tests.{lt-leb, le-leb}
 use Rattle.numbers.specs.Search.{Rising, Found}
 use Rattle.numbers.specs.Sums.{stop}
@@ -14,15 +14,13 @@ use mir.Val.{bool_byte}
 
 -- from lo on, at most n more numbers are at or below p
 pub record Halving (ss : List ℕ) (count p lo n : ℕ) : Type 0 where
-  pub enough : count ≤ length ss
   pub inside : lo + n ≤ count
   pub below : 0 < lo → get_or ss (lo - 1) 0 ≤ p
   pub above : Rising ss count → (j : ℕ) → lo + n ≤ j → j < count → p < get_or ss j 0
 
-pub halving_begins : (ss : List ℕ) (count p : ℕ) → count ≤ length ss → Halving ss count p 0 count
-halving_begins ss count p h =
+pub halving_begins : (ss : List ℕ) (count p : ℕ) → Halving ss count p 0 count
+halving_begins ss count p =
     record {
-      enough = h;
       inside = omega arith;
       below = λ l. absurd (omega arith);
       above = λ r j l m. absurd (omega arith);
@@ -33,18 +31,10 @@ module _ {ss : List ℕ} {count p lo n : ℕ} (g : Halving ss count p lo n) wher
     abbrev step : ℕ
     step = n - n / 2
 
-    pub halving_in : lo + step - 1 < length ss
-    halving_in = omega (arith, g.inside, g.enough)
-
-    -- twice the step is at most one more than what is left
-    pub halving_short : lo + step + step ≤ length ss + 1
-    halving_short = omega (arith, g.inside, g.enough)
-
     -- the number in the middle is at or below p
     up : get_or ss (lo + step - 1) 0 ≤ p → Halving ss count p (lo + step) (n / 2)
     up h =
         record {
-          enough = g.enough;
           inside = omega (arith, g.inside);
           below = λ m. h;
           above = λ r j a b. g.above r j (omega (arith, a)) b;
@@ -54,7 +44,6 @@ module _ {ss : List ℕ} {count p lo n : ℕ} (g : Halving ss count p lo n) wher
     down : p < get_or ss (lo + step - 1) 0 → Halving ss count p lo (n / 2)
     down h =
         record {
-          enough = g.enough;
           inside = omega (arith, g.inside);
           below = g.below;
           above = λ r j a b. let o = r (lo + step - 1) j (omega (arith, a)) b in omega (arith, h, o);

@@ -212,11 +212,6 @@ module _ {A : Type 0} where
   pub at_front : (l : List A) (i : ℕ) (d : A) → get_or (drop i l) 0 d ≡ get_or l i d
   at_front l i d = let e : i + 0 ≡ i = omega arith in get_or-drop i l 0 d ∙ ap (λ (j : ℕ). get_or l j d) e
 
-pub mapped_at : {A B : Type 0} (f : A → B) (l : List A) (i : ℕ) (d : A) (e : B) → i < length l → get_or (map f l) i e ≡ f (get_or l i d)
-mapped_at f [] i d e h = absurd (not-suc-le-zero h)
-mapped_at f (x ∷ xs) zero d e h = refl
-mapped_at f (x ∷ xs) (suc i) d e h = mapped_at f xs i d e (le_of_suc-le-suc h)
-
 pub reverse_at : {A : Type 0} (l : List A) (t : ℕ) (d : A) → t < length l → get_or (reverse l) t d ≡ get_or l (length l - 1 - t) d
 reverse_at [] t d h = absurd (not-suc-le-zero h)
 reverse_at {A} (x ∷ xs) t d h =

@@ -19,7 +19,8 @@ use Rattle.plan_record.specs.declared.Record.{Record}
 use Rattle.plan_record.specs.declared.Region.{Region}
 use Rattle.model.proofs.Opening.{listed_by}
 use Rattle.numbers.proofs.Cases.{by_eq}
-use Rattle.numbers.proofs.Lists.{from_here, mapped_at}
+use Rattle.std.proofs.lemmas.List.{get_or-map}
+use Rattle.numbers.proofs.Lists.{from_here}
 use Rattle.numbers.proofs.Pairs.{length_pairs}
 use Rattle.numbers.proofs.Sums.{sum_next}
 use Rattle.plan_open.proofs.Looping.{row_set}
@@ -68,14 +69,14 @@ module _ (rs : List Record) (l : List ℕ) (i : ℕ) (rest : List ℕ) (place : 
   before = sum (take i (map listed_by (records_of rs)))
 
   record_at : get_or (records_of rs) i past_record ≡ this
-  record_at = mapped_at record_of rs i one past_record h ∙ ap record_of at
+  record_at = get_or-map record_of rs i one past_record h ∙ ap record_of at
 
   sum_on : sum (take (suc i) (map listed_by (records_of rs))) ≡ before + listed_by this
   sum_on =
       let n : length (map listed_by (records_of rs)) ≡ length rs = length-map (records_of rs) listed_by ∙ length-map rs record_of in
       sum_next (map listed_by (records_of rs)) i (omega arith)
       ∙ ap (λ (k : ℕ). before + k)
-      (mapped_at listed_by (records_of rs) i past_record 0 (omega (arith, length-map rs record_of)) ∙ ap listed_by record_at)
+      (get_or-map listed_by (records_of rs) i past_record 0 (omega (arith, length-map rs record_of)) ∙ ap listed_by record_at)
 
   own_is : own_of (records_of rs) l i ≡ take (2 * listed_by this) rest
   own_is = rw (record_at, place) refl

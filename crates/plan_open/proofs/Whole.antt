@@ -30,7 +30,8 @@ use Rattle.footprint.proofs.Passed.{Inside}
 use Rattle.footprint.proofs.Regular.{accepted_regular}
 use Rattle.model.proofs.Figures.{held_most, logical_most, physical_most}
 use Rattle.model.proofs.Opening.{count_of, each_length, each_at, Fine, accepted_fine, checks, opened_sound}
-use Rattle.numbers.proofs.Lists.{all_at, all_of, all_imp, mapped_at, at_distinct}
+use Rattle.std.proofs.lemmas.List.{get_or-map}
+use Rattle.numbers.proofs.Lists.{all_at, all_of, all_imp, at_distinct}
 use Rattle.numbers.proofs.Pairs.{length_pairs}
 use Rattle.numbers.proofs.Refusals.{first_none, first_parts, each_sum}
 use Rattle.plan_open.proofs.Usages.{rows_are, row_is}
@@ -148,7 +149,7 @@ module _ {lim : Limits} {rs : List Record} {l xs₀ ss₀ fs₀ : List ℕ} (a :
         ext_get_or model_region.no_region (map (region_of xs) (take (length rs) gs)) (model.each_record model.region_from ms l)
         (omega arith)
         (λ i h.
-        mapped_at (region_of xs) (take (length rs) gs) i past_region model_region.no_region (omega arith) ∙ means i (omega arith)
+        get_or-map (region_of xs) (take (length rs) gs) i past_region model_region.no_region (omega arith) ∙ means i (omega arith)
         ∙ sym (each_at model.region_from ms l i past_record model_region.no_region (omega arith)))
 
     rows : map cap_of (rows_of plan) ≡ model.rows_for (map (λ (r : model.Record). r.tag) ms)
@@ -164,8 +165,8 @@ module _ {lim : Limits} {rs : List Record} {l xs₀ ss₀ fs₀ : List ℕ} (a :
         let e = f.rows.full in
         at_distinct (map row_of gs) 0
         (λ i j k h q.
-        let u = mapped_at row_of gs i past_region 0 (omega arith) ∙ f.rows.row i (omega arith) in
-        let v = mapped_at row_of gs j past_region 0 (omega arith) ∙ f.rows.row j (omega arith) in
+        let u = get_or-map row_of gs i past_region 0 (omega arith) ∙ f.rows.row i (omega arith) in
+        let v = get_or-map row_of gs j past_region 0 (omega arith) ∙ f.rows.row j (omega arith) in
         omega arith)
 
     accounted : (tag : ℕ) → accounting.row_of tag (rows_of plan) ≡ account_of (model.opened o) tag

@@ -16,7 +16,8 @@ use Rattle.plan_record.specs.Plan.{region_of, regions_of, world_of, Mapped, Vali
 use Rattle.plan_record.specs.declared.Plan.{Plan}
 use Rattle.plan_record.specs.declared.Region.{Region}
 use Rattle.model.proofs.Sound.{Regular}
-use Rattle.numbers.proofs.Lists.{all_at, mapped_at, distinct_at}
+use Rattle.std.proofs.lemmas.List.{get_or-map}
+use Rattle.numbers.proofs.Lists.{all_at, distinct_at}
 use Rattle.plan_record.proofs.Places.{known_place, region_place, found_is, none_is}
 use Rattle.model.specs.Region as model
 
@@ -45,7 +46,7 @@ module _ (p : Plan) (xs : List ℕ) where
     counted_below = let m = length-take p.count p.regions in omega arith
 
     pub world_at : get_or (map (region_of xs) (regions_of p)) i model.no_region ≡ region_of xs (region_at p i)
-    world_at = mapped_at (region_of xs) (regions_of p) i past_region model.no_region h ∙ ap (region_of xs) (get_or-take p.count p.regions i past_region counted_below)
+    world_at = get_or-map (region_of xs) (regions_of p) i past_region model.no_region h ∙ ap (region_of xs) (get_or-take p.count p.regions i past_region counted_below)
 
     pub region_is : (id : ℕ) → i ≡ spot_of p id → region_in (world_of p xs) id ≡ region_of xs (region_at p i)
     unfolding world_of
@@ -81,7 +82,7 @@ module _ (p : Plan) (xs ss fs : List ℕ) (v : Valid p xs ss fs) where
         let w = within in
         let q : k < length p.regions = omega (arith, v.full) in
         distinct_at (map row_of p.regions) 0 k i v.rows (omega arith) (omega arith) d
-        (mapped_at row_of p.regions k past_region 0 q ∙ e ∙ sym (mapped_at row_of p.regions i past_region 0 w))
+        (get_or-map row_of p.regions k past_region 0 q ∙ e ∙ sym (get_or-map row_of p.regions i past_region 0 w))
 
     -- what the model's invariant says of it
     pub regular_is : Regular p.limits (region_of xs (region_at p i))

@@ -6,7 +6,8 @@ use native.Mathlib.Omega.{arith}
 use lib.ListN.{length, get_or, take, drop, set, length-append}
 use lib.Seq.{take-suc, take_all}
 use borrow.Author.Tests.{eq-eqb, ne_eqb}
-use Rattle.runs.specs.Runs.{Run, run, blank_run, runs_of}
+use Rattle.runs.specs.declared.Run.{Run}
+use Rattle.runs.specs.Runs.{run, blank_run, runs_of}
 use Rattle.numbers.specs.Lists.{All, written}
 use Rattle.numbers.specs.Range.{Range, range, blank, total}
 use Rattle.numbers.specs.Refusals.{each_extent}

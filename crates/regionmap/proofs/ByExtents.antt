@@ -8,7 +8,8 @@ use native.Mathlib.Omega.{arith}
 use lib.Dec.{ltb}
 use lib.ListN.{length, get_or}
 use borrow.Author.Tests.{le-ltb, ne_eqb, le-leb, lt-leb}
-use Rattle.runs.specs.Runs.{Run, blank_run, runs_of, run_byte, byte_of, Holds}
+use Rattle.runs.specs.declared.Run.{Run}
+use Rattle.runs.specs.Runs.{blank_run, runs_of, run_byte, byte_of, Holds}
 use Rattle.numbers.specs.Range.{Range, total}
 use Rattle.numbers.specs.Refusals.{refuse, first, Answer, accepted, answer}
 use Rattle.numbers.specs.Sums.{top}

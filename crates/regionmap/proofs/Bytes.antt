@@ -9,7 +9,8 @@ use native.Mathlib.Omega.{arith}
 use lib.Dec.{leb, eqb}
 use lib.ListN.{length, get_or, length-append}
 use borrow.Author.Tests.{eq-eqb, ne_eqb, le-leb, lt-leb}
-use Rattle.runs.specs.Runs.{Run, run, blank_run, runs_of, byte_of, Holds, run_byte}
+use Rattle.runs.specs.declared.Run.{Run}
+use Rattle.runs.specs.Runs.{run, blank_run, runs_of, byte_of, Holds, run_byte}
 use Rattle.numbers.specs.Lists.{All}
 use Rattle.numbers.specs.Range.{Range, range, total}
 use Rattle.numbers.specs.Sums.{top}
@@ -73,7 +74,7 @@ pub run_holds : (rs : List Run) (cap p : ℕ) → EndToEnd 0 rs cap → p < cap 
 run_holds rs cap p l h = last_holds p blank_run rs 0 cap l h (λ z. absurd (not-suc-le-zero z))
 
 -- no run starts at or below p
-last_none : (p : ℕ) (r : Run) (rs : List Run) → ((j : ℕ) → j < length rs → p < (get_or rs j blank_run).start) → last_at p r rs ≡ r
+pub last_none : (p : ℕ) (r : Run) (rs : List Run) → ((j : ℕ) → j < length rs → p < (get_or rs j blank_run).start) → last_at p r rs ≡ r
 unfolding last_at
 last_none p r [] f = refl
 last_none p r (q ∷ qs) f = simp (lt-leb q.start p (f 0 (omega arith))) (last_none p r qs (λ j h. f (suc j) (omega arith)))

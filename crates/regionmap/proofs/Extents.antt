@@ -7,7 +7,8 @@ use native.Mathlib.Omega.{arith}
 use lib.Dec.{eqb}
 use lib.ListN.{length}
 use borrow.Author.Tests.{eq-eqb, ne_eqb, ltb-false}
-use Rattle.runs.specs.Runs.{Run, run, not_empty, joins, joined_to, joined, runs_from, runs_of}
+use Rattle.runs.specs.declared.Run.{Run}
+use Rattle.runs.specs.Runs.{run, not_empty, joins, joined_to, joined, runs_from, runs_of}
 use Rattle.numbers.specs.Lists.{All}
 use Rattle.numbers.specs.Range.{Range, range, total}
 use Rattle.numbers.specs.Refusals.{each_extent}

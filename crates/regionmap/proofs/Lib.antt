@@ -9,3 +9,4 @@ pub mod Building
 pub mod Listing
 pub mod Making
 pub mod ByExtents
+pub mod RunRecords

@@ -6,7 +6,8 @@ use mathlib.Core.Path.{◌≡◌, refl, ap, sym, ◌∙◌}
 use native.Mathlib.Omega.{arith}
 use lib.ListN.{length, get_or, take, drop, set, length-append, length-map, drop_of_length-le}
 use lib.Seq.{drop-cons, append_snoc, get_or-take, length-take-le}
-use Rattle.runs.specs.Runs.{Run, run}
+use Rattle.runs.specs.declared.Run.{Run}
+use Rattle.runs.specs.Runs.{run}
 use Rattle.numbers.specs.Refusals.{accepted, refused}
 use Rattle.numbers.specs.Lists.{written}
 use Rattle.numbers.specs.Pairs.{pairs, flat}

@@ -8,7 +8,8 @@ use lib.Dec.{ltb}
 use lib.ListN.{length, get_or, take}
 use lib.Seq.{length-take-le, get_or-take}
 use borrow.Author.Tests.{ltb-false, le-ltb}
-use Rattle.runs.specs.Runs.{Run, blank_run}
+use Rattle.runs.specs.declared.Run.{Run}
+use Rattle.runs.specs.Runs.{blank_run}
 use Rattle.numbers.specs.Refusals.{first, refuse, accepted, refused, answer}
 use Rattle.numbers.specs.Search.{Rising, Found}
 use Rattle.numbers.specs.Sums.{top, stop}

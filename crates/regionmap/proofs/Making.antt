@@ -10,7 +10,8 @@ use native.Mathlib.Omega.{arith}
 use lib.ListN.{length, get_or, take, drop, length-append, length-map, length-drop}
 use lib.Seq.{take_at}
 use borrow.Author.Tests.{ne_eqb, le-ltb, lt-ltb}
-use Rattle.runs.specs.Runs.{Run, blank_run, runs_of}
+use Rattle.runs.specs.declared.Run.{Run}
+use Rattle.runs.specs.Runs.{blank_run, runs_of}
 use Rattle.numbers.specs.Lists.{All, written}
 use Rattle.numbers.specs.Pairs.{pairs}
 use Rattle.numbers.specs.Range.{total}

@@ -5,7 +5,8 @@ use mathlib.Core.Path.{◌≡◌, refl, ap, sym, ◌∙◌}
 use native.Mathlib.Omega.{arith}
 use lib.ListN.{length, get_or, take}
 use lib.Seq.{length-take-le, get_or-take}
-use Rattle.runs.specs.Runs.{Run, run}
+use Rattle.runs.specs.declared.Run.{Run}
+use Rattle.runs.specs.Runs.{run}
 use Rattle.regionmap.specs.Map.{runs_to, placement_of, EndToEnd, file_end, longer}
 use Rattle.regionmap.specs.declared.RegionMap.{RegionMap}
 use Rattle.regionmap.proofs.Order.{at}

@@ -5,7 +5,8 @@ use mathlib.Core.Path.{◌≡◌}
 use native.Mathlib.Nat.{le_of_suc-le-suc, not-suc-le-zero}
 use native.Mathlib.Omega.{arith}
 use lib.ListN.{length, get_or}
-use Rattle.runs.specs.Runs.{Run, blank_run}
+use Rattle.runs.specs.declared.Run.{Run}
+use Rattle.runs.specs.Runs.{blank_run}
 use Rattle.regionmap.specs.Map.{EndToEnd}
 use Rattle.numbers.proofs.Cases.{by_eq}
 

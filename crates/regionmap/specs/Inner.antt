@@ -1,6 +1,7 @@
 -- What the steps of the map's calls do; no public call promises anything by these.
 use Rattle.std.specs.Prelude.{ℕ, ◌-◌, ◌≤◌, ◌<◌, List, map, ◌≡◌, length, get_or, drop, Result, Ok, Err}
-use Rattle.runs.specs.Runs.{Run, blank_run, runs_of}
+use Rattle.runs.specs.declared.Run.{Run}
+use Rattle.runs.specs.Runs.{blank_run, runs_of}
 use Rattle.numbers.specs.Lists.{written}
 use Rattle.numbers.specs.Range.{Range, total}
 use Rattle.numbers.specs.Refusals.{each_extent, refusal_number}

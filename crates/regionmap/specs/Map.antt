@@ -1,6 +1,7 @@
 -- Document 01, "regionmap.rs": what a region's map means, and what each call on it answers.
 use Rattle.std.specs.Prelude.{ℕ, ◌+◌, ◌-◌, ◌≤◌, max, Bool, false, cond, not, ◌&&◌, ◌||◌, List, [], ◌∷◌, ◌++◌, map, ◌⊎◌, ◌≡◌, ltb, leb, eqb, length, take, drop, set, Result, Ok, Err}
-use Rattle.runs.specs.Runs.{Run, run, blank_run, runs_of, run_byte}
+use Rattle.runs.specs.declared.Run.{Run}
+use Rattle.runs.specs.Runs.{run, blank_run, runs_of, run_byte}
 use Rattle.numbers.specs.Lists.{All, list_after}
 use Rattle.numbers.specs.Pairs.{is_odd, pairs, flat}
 use Rattle.numbers.specs.Range.{Range, range, total}

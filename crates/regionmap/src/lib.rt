@@ -2,6 +2,7 @@
 // position among them.
 #![tactic(auto)]
 
+mod among;
 mod build;
 mod list;
 mod search;
@@ -11,13 +12,14 @@ ghost use Rattle.numbers.specs.Refusals.{told};
 ghost use Rattle.regionmap.specs.Inner.{RunEnd};
 ghost use Rattle.regionmap.specs.Map.{Made, Roomed, Published, Extended, Answered, Written, placement_of, file_end};
 
+pub use among::locate_among;
 use build::{lay, measure};
 use list::list_runs;
 use numbers::{Refusal, pairs_of, passes};
 use search::find;
 
 // Most extents of a map, and most room.
-const MOST: usize = 4084;
+pub(crate) const MOST: usize = 4084;
 
 // A region's data placement. Its runs after the first stand in two lists that its holder lends to
 // each call: their starts and their file offsets. They are lent one by one, and inner functions ask for

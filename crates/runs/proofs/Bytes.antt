@@ -9,7 +9,8 @@ use native.Mathlib.Omega.{arith}
 use lib.Dec.{eqb}
 use lib.ListN.{length, get_or}
 use borrow.Author.Tests.{eq-eqb, ne_eqb}
-use Rattle.runs.specs.Runs.{Run, blank_run, not_empty, joins, joined_to, joined, runs_from, runs_of, byte_of}
+use Rattle.runs.specs.declared.Run.{Run}
+use Rattle.runs.specs.Runs.{blank_run, not_empty, joins, joined_to, joined, runs_from, runs_of, byte_of}
 use Rattle.numbers.specs.Lists.{All, Any}
 use Rattle.numbers.specs.Range.{Range, range, blank, Has, Disjoint, total}
 use Rattle.numbers.specs.Sums.{top, sum}

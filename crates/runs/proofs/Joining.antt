@@ -9,7 +9,8 @@ use lib.ListN.{length, get_or, drop, set, length-append, length-map, drop_of_len
 use lib.Seq.{drop-cons, append_snoc}
 use borrow.Author.Tests.{eq-eqb, ne_eqb, leb-true, eqb-true, le-leb, lt-ltb, le-ltb}
 use Rattle.runs.specs.Inner.{Reached, Joined}
-use Rattle.runs.specs.Runs.{Run, run, not_empty, joins, joined_to, joined, runs_from, runs_of, runs_fail, Listed}
+use Rattle.runs.specs.declared.Run.{Run}
+use Rattle.runs.specs.Runs.{run, not_empty, joins, joined_to, joined, runs_from, runs_of, runs_fail, Listed}
 use Rattle.numbers.specs.Lists.{written}
 use Rattle.numbers.specs.Pairs.{is_odd, pairs}
 use Rattle.numbers.specs.Range.{Range, range, blank}

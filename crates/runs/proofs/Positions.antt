@@ -9,7 +9,8 @@ use native.Mathlib.Omega.{arith}
 use lib.Dec.{eqb}
 use lib.ListN.{length, get_or}
 use borrow.Author.Tests.{lt-ltb, le-ltb, eqb-true}
-use Rattle.runs.specs.Runs.{Run, blank_run, not_empty, joins, joined_to, joined, runs_from, runs_of, byte_of, Holds, run_byte}
+use Rattle.runs.specs.declared.Run.{Run}
+use Rattle.runs.specs.Runs.{blank_run, not_empty, joins, joined_to, joined, runs_from, runs_of, byte_of, Holds, run_byte}
 use Rattle.numbers.specs.Range.{Range, range, blank, total}
 use Rattle.numbers.specs.Sums.{top, stop, sum}
 use Rattle.runs.proofs.Joining.{joins_true, true_joins}

@@ -2,7 +2,8 @@
 use Rattle.std.specs.Prelude.{ℕ, ◌+◌, ◌≤◌, ◌<◌, List, ◌∷◌, map, ◌≡◌, length, get_or, drop}
 use Rattle.numbers.specs.Lists.{written}
 use Rattle.numbers.specs.Range.{Range, range, blank}
-use Rattle.runs.specs.Runs.{Run, not_empty, joined_to, joined, runs_of}
+use Rattle.runs.specs.declared.Run.{Run}
+use Rattle.runs.specs.Runs.{not_empty, joined_to, joined, runs_of}
 
 -- The run that begins with the extent i has length len, and the extent `next` is the first behind it.
 pub record Reached (xs : List Range) (i len next : ℕ) : Type 0 where

@@ -5,13 +5,9 @@ use Rattle.numbers.specs.Pairs.{is_odd, pairs}
 use Rattle.numbers.specs.Range.{Range, range}
 use Rattle.numbers.specs.Refusals.{refuse, Answer, answer}
 use Rattle.numbers.specs.Sums.{top, stop}
+use Rattle.runs.specs.declared.Run.{Run}
 
 -- "A run is its start .., file offset and length."
-pub record Run : Type 0 where
-  pub start : ℕ
-  pub file : ℕ
-  pub len : ℕ
-
 abbrev pub run : ℕ → ℕ → ℕ → Run
 run s f l = record { start = s; file = f; len = l }
 

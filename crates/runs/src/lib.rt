@@ -9,6 +9,15 @@ ghost use Rattle.runs.specs.Runs.{Listed};
 use join::join;
 use numbers::{Refusal, pairs_of};
 
+// A run: where it starts in the data and in the file, and its length.
+#[repr(C)]
+#[derive(Clone, Copy)]
+pub struct Run {
+    pub start: u64,
+    pub file: u64,
+    pub len: u64,
+}
+
 // The runs of extents, each as its start, its file offset and its length; answers how many there are. Three
 // lists are lent, since searches go over plain starts.
 pub fn runs(

@@ -14,7 +14,8 @@ use Rattle.settle.specs.Laying.{Laid, no_piece}
 use Rattle.settle.specs.Regions.{Lent, Piece, piece, pieces_from, Region, regions_of}
 use Rattle.settle.specs.Settle.{range_count}
 use Rattle.numbers.proofs.Cases.{by_eq, by_lt}
-use Rattle.numbers.proofs.Lists.{stored_new, stored_old, mapped_at}
+use Rattle.std.proofs.lemmas.List.{get_or-map}
+use Rattle.numbers.proofs.Lists.{stored_new, stored_old}
 use Rattle.numbers.proofs.Pairs.{length_pairs, same_pairs, pairs_take, pairs_drop}
 use Rattle.numbers.proofs.Sums.{sum_next, sum_front}
 use Rattle.settle.proofs.Reading.{length_of, region_at, region_of}
@@ -88,7 +89,7 @@ module _ {rs : List Range} {owner first n : ℕ} {s₀ s : List ℕ} {k : ℕ} (
       let u = g.upto in
       let m : length (map (piece owner seq) rs) ≡ length rs = length-map rs (piece owner seq) in
       let read : (j : ℕ) → j < length rs → get_or (map (piece owner seq) rs) j no_piece ≡ piece owner seq (get_or rs j blank) =
-      λ j b. mapped_at (piece owner seq) rs j blank no_piece b in
+      λ j b. get_or-map (piece owner seq) rs j blank no_piece b in
       record {
         size = g.size;
         starts = λ j b. g.starts j (omega arith) ∙ ap (λ (p : Piece). range p.range.offset (first + j)) (sym (read j (omega arith)));

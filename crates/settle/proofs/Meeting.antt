@@ -21,7 +21,8 @@ use Rattle.settle.specs.Sweeping.{item_of, no_item, item_at, items_of, mirror, w
 use Rattle.settle.specs.declared.sweep.Item.{Item}
 use Rattle.sort.specs.Sort.{Ascending}
 use Rattle.numbers.proofs.Cases.{by_lt}
-use Rattle.numbers.proofs.Lists.{all_append, all_of, all_imp, all_both, all_map, map_all, any_append, any_map, any_same, mapped_at}
+use Rattle.std.proofs.lemmas.List.{get_or-map}
+use Rattle.numbers.proofs.Lists.{all_append, all_of, all_imp, all_both, all_map, map_all, any_append, any_map, any_same}
 use Rattle.numbers.proofs.Order.{in_offset}
 use Rattle.numbers.proofs.Ranges.{end_top}
 use Rattle.settle.proofs.Others.{InTurn, across, across_none, behind_map, behind_reverse, behind_turn, other_append, other_behind, other_map, other_none, other_same, other_sorted}
@@ -132,8 +133,8 @@ module _ (ps : List Piece) (order facts : List Range) (o : Ordered ps order fact
       let e = o.size in
       ext_get_or no_item (map (item_at facts) o.starts) (map to_item ps) (omega arith)
       (λ k h.
-      mapped_at (item_at facts) o.starts k blank no_item (omega arith)
-      ∙ rw (o.start k (omega arith), o.fact k (omega arith)) (sym (mapped_at to_item ps k no_piece no_item (omega arith))))
+      get_or-map (item_at facts) o.starts k blank no_item (omega arith)
+      ∙ rw (o.start k (omega arith), o.fact k (omega arith)) (sym (get_or-map to_item ps k no_piece no_item (omega arith))))
 
   starts_all : (P : Item → Type 0) → All (λ (x : Piece). P (to_item x)) ps → All (λ (p : Range). P (item_at facts p)) order
   starts_all P a =

@@ -15,7 +15,8 @@ use Rattle.settle.specs.Inner.{reach, Raised}
 use Rattle.settle.specs.Sweeping.{no_item, item_at, items_of, mirror, walk, within, usable_over, own_over, struck, behind, strikes, Arrived, Ready, Swept}
 use Rattle.settle.specs.declared.sweep.Item.{Item}
 use Rattle.numbers.proofs.Cases.{by_lt, by_eq}
-use Rattle.numbers.proofs.Lists.{all_append, all_at, mapped_at, stored_new, stored_old, reverse_at}
+use Rattle.std.proofs.lemmas.List.{get_or-map}
+use Rattle.numbers.proofs.Lists.{all_append, all_at, stored_new, stored_old, reverse_at}
 use Rattle.numbers.proofs.Pairs.{length_pairs}
 use Rattle.settle.proofs.Others.{any_last, behind_last}
 use Rattle.settle.proofs.Tree.{reach_blank}
@@ -46,7 +47,7 @@ module _ (order : List ℕ) (facts : List Range) (t : ℕ) (back : Bool) (h : t 
       let i : length (map mirror (items_of (pairs order) facts)) - 1 - t ≡ last = omega arith in
       simp b (ap mirror e ∙ sym (reverse_at (map mirror (items_of (pairs order) facts)) t no_item (omega arith)
       ∙ ap (λ (k : ℕ). get_or (map mirror (items_of (pairs order) facts)) k no_item) i
-      ∙ mapped_at mirror (items_of (pairs order) facts) last no_item no_item (omega arith)))
+      ∙ get_or-map mirror (items_of (pairs order) facts) last no_item no_item (omega arith)))
 
 -- ---- one mark
 

@@ -17,7 +17,8 @@ use Rattle.settle.specs.Regions.{Region, Piece, piece, pieces, pieces_from}
 use Rattle.settle.specs.Settle.{overlapped, renamed, superseded, marks_of}
 use Rattle.numbers.proofs.Cases.{by_lt, by_eq, clash, never, and-true, or-false}
 use Rattle.numbers.proofs.Disjoint.{disjoint_at, at_disjoint}
-use Rattle.numbers.proofs.Lists.{same_true, true_same, all_at, mapped_at}
+use Rattle.std.proofs.lemmas.List.{get_or-map}
+use Rattle.numbers.proofs.Lists.{same_true, true_same, all_at}
 use Rattle.numbers.proofs.Ranges.{meet_sym}
 use Rattle.settle.proofs.Marking.{mark_at, mark_none, none_mark}
 use Rattle.settle.proofs.Meeting.{Of, pieces_of}
@@ -53,7 +54,7 @@ module _ (us : List Region) where
   ranges_length = ap length (sym (pieces_ranges 0 us)) ∙ length-map (pieces us) (λ (x : Piece). x.range)
 
   pub range_at : (k : ℕ) → k < length (pieces us) → get_or (ranges_of us) k blank ≡ (get_or (pieces us) k no_piece).range
-  range_at k h = ap (λ (l : List Range). get_or l k blank) (sym (pieces_ranges 0 us)) ∙ mapped_at (λ (x : Piece). x.range) (pieces us) k no_piece blank h
+  range_at k h = ap (λ (l : List Range). get_or l k blank) (sym (pieces_ranges 0 us)) ∙ get_or-map (λ (x : Piece). x.range) (pieces us) k no_piece blank h
 
   abbrev nth : ℕ → Piece
   nth j = get_or (pieces us) j no_piece

@@ -103,4 +103,18 @@ impl TagSpace {
             Some(limit) => at_most(self.physical, self.reserved, extra, limit),
         }
     }
+
+    // Counts one usage more in a row that its holder lends.
+    pub fn count_usage(&mut self, logical: u64, physical: u64)
+        ensures { self.new ≡ add_usage logical physical self.old }
+    {
+        *self = self.add_usage(logical, physical);
+    }
+
+    // Counts one usage less in it.
+    pub fn uncount_usage(&mut self, logical: u64, physical: u64)
+        ensures { self.new ≡ remove_usage logical physical self.old }
+    {
+        *self = self.remove_usage(logical, physical);
+    }
 }
