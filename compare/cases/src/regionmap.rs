@@ -7,6 +7,7 @@ mod each;
 mod every;
 mod foreign;
 mod listed;
+mod records;
 mod sample;
 mod sequence;
 mod sides;
@@ -21,15 +22,16 @@ use sides::{Call, MOST};
 
 /// How often each call had each refusal.
 #[derive(Default)]
-struct Tally([[usize; 25]; 6]);
+struct Tally([[usize; 25]; 7]);
 
-const CALLS: [(&str, &[usize]); 6] = [
+const CALLS: [(&str, &[usize]); 7] = [
     ("from_extents", &[0, 1, 11, 12, 23]),
     ("with_room", &[0, 1]),
     ("publish_len", &[0, 23]),
     ("extend", &[0, 1, 11, 12, 19]),
     ("locate", &[0, 1, 23, 24]),
     ("extents", &[0, 1]),
+    ("locate among the runs as records", &[0, 23, 24]),
 ];
 
 impl Tally {
@@ -41,6 +43,7 @@ impl Tally {
             Call::Extend { .. } => 3,
             Call::Locate { .. } => 4,
             Call::Extents { .. } => 5,
+            Call::LocateAmong { .. } => 6,
         };
         self.0[k][refusal as usize] += 1;
     }
@@ -136,5 +139,6 @@ pub fn compare(random: &mut Random) -> Result<usize, String> {
         try_sequence(&sequence)?;
     }
     let others = listed::compare()? + each::compare(random)? + foreign::compare(random)?;
-    Ok(tally.all_seen()? + others)
+    let among = records::compare(random)?;
+    Ok(tally.all_seen()? + others + among)
 }

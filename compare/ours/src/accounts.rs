@@ -92,6 +92,10 @@ unsafe extern "C" {
     pub safe fn row_unreserve(row: Row, bytes: u64) -> Row;
     #[link_name = "fundravai_row_fits"]
     pub safe fn row_fits(row: Row, extra: u64) -> bool;
+    #[link_name = "fundravai_row_count_usage"]
+    pub safe fn row_count_usage(row: &mut Row, logical: u64, physical: u64);
+    #[link_name = "fundravai_row_uncount_usage"]
+    pub safe fn row_uncount_usage(row: &mut Row, logical: u64, physical: u64);
     safe fn fundravai_row_set_cap(row: Row, capped: bool, cap: u64) -> Row;
     safe fn fundravai_accounts_set_cap(a: Accounts, tag: u32, capped: bool, cap: u64) -> Posted;
     safe fn fundravai_extent_len(data_size: u64, block: u64) -> FlatOption;
@@ -122,6 +126,18 @@ unsafe extern "C" {
         physical: *const u64,
         physical_len: usize,
     ) -> Posted;
+    fn fundravai_accounts_count_each(
+        a: Accounts,
+        remove: bool,
+        tags: *const u32,
+        tags_len: usize,
+        logical: *const u64,
+        logical_len: usize,
+        physical: *const u64,
+        physical_len: usize,
+    ) -> Posted;
+    fn fundravai_row_count_each(row: *mut Row, usages: *const u64, usages_len: usize);
+    fn fundravai_row_add_each(row: Row, usages: *const u64, usages_len: usize) -> Row;
     fn fundravai_accounts_fits_each(
         a: Accounts,
         tags: *const u32,
@@ -182,18 +198,53 @@ pub fn from_usage(u: Usages) -> Posted {
 
 /// Adds or removes each usage in turn; what the last posting hands back.
 pub fn post_each(a: Accounts, remove: bool, u: Usages) -> Posted {
+    each(fundravai_accounts_post_each, a, remove, u)
+}
+
+/// The same in accounts that stay where they are from posting to posting.
+pub fn count_each(a: Accounts, remove: bool, u: Usages) -> Posted {
+    each(fundravai_accounts_count_each, a, remove, u)
+}
+
+type Postings = unsafe extern "C" fn(
+    Accounts,
+    bool,
+    *const u32,
+    usize,
+    *const u64,
+    usize,
+    *const u64,
+    usize,
+) -> Posted;
+
+fn each(postings: Postings, a: Accounts, remove: bool, u: Usages) -> Posted {
+    let Usages {
+        tags,
+        logical,
+        physical,
+    } = u;
     unsafe {
-        fundravai_accounts_post_each(
+        postings(
             a,
             remove,
-            u.tags.as_ptr(),
-            u.tags.len(),
-            u.logical.as_ptr(),
-            u.logical.len(),
-            u.physical.as_ptr(),
-            u.physical.len(),
+            tags.as_ptr(),
+            tags.len(),
+            logical.as_ptr(),
+            logical.len(),
+            physical.as_ptr(),
+            physical.len(),
         )
     }
+}
+
+/// Counts usages, each two numbers, logical and physical bytes, on a row that is lent.
+pub fn row_count_each(row: &mut Row, usages: &[u64]) {
+    unsafe { fundravai_row_count_each(row, usages.as_ptr(), usages.len()) }
+}
+
+/// The same on a row by value.
+pub fn row_add_each(row: Row, usages: &[u64]) -> Row {
+    unsafe { fundravai_row_add_each(row, usages.as_ptr(), usages.len()) }
 }
 
 /// Asks for each tag in turn: the last refusal, and how many fit.

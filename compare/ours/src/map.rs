@@ -63,6 +63,23 @@ unsafe extern "C" {
         pos: u64,
         n: u64,
     ) -> FlatAnswer;
+    fn fundravai_locate_among(
+        runs: *const Run,
+        runs_len: usize,
+        published: u64,
+        pos: u64,
+        n: u64,
+    ) -> FlatAnswer;
+    fn fundravai_locate_among_each(
+        runs: *const Run,
+        runs_len: usize,
+        published: u64,
+        positions: *const u64,
+        positions_len: usize,
+        n: u64,
+        ats: *mut u64,
+        ats_len: usize,
+    ) -> u64;
     fn fundravai_map_runs(
         first: u64,
         data: u64,
@@ -114,6 +131,15 @@ unsafe extern "C" {
         count: *mut usize,
         room: *mut usize,
     ) -> u64;
+}
+
+/// A run: where it starts in the data and in the file, and its length.
+#[derive(Clone, Copy, Debug, PartialEq)]
+#[repr(C)]
+pub struct Run {
+    pub start: u64,
+    pub file: u64,
+    pub len: u64,
 }
 
 /// A map: the first run's file offset, the published length, the capacity, how many runs there are
@@ -222,6 +248,12 @@ pub fn locate(map: &Map, starts: &[u64], files: &[u64], pos: u64, n: u64) -> (u6
     (r.refusal, r.value)
 }
 
+/// The same among run records, of which the first `published` bytes are data.
+pub fn locate_among(runs: &[Run], published: u64, pos: u64, n: u64) -> (u64, u64) {
+    let r = unsafe { fundravai_locate_among(runs.as_ptr(), runs.len(), published, pos, n) };
+    (r.refusal, r.value)
+}
+
 /// Answers the refusal, 0 if accepted, and how many runs were written.
 pub fn runs(map: &Map, starts: &[u64], files: &[u64], out: &mut [u64]) -> (u64, u64) {
     let r = unsafe {
@@ -262,6 +294,28 @@ pub fn locate_each(
             starts.len(),
             files.as_ptr(),
             files.len(),
+            positions.as_ptr(),
+            positions.len(),
+            n,
+            ats.as_mut_ptr(),
+            ats.len(),
+        )
+    }
+}
+
+/// The same among run records.
+pub fn locate_among_each(
+    runs: &[Run],
+    published: u64,
+    positions: &[u64],
+    n: u64,
+    ats: &mut [u64],
+) -> u64 {
+    unsafe {
+        fundravai_locate_among_each(
+            runs.as_ptr(),
+            runs.len(),
+            published,
             positions.as_ptr(),
             positions.len(),
             n,

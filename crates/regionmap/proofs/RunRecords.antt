@@ -20,12 +20,12 @@ use Rattle.numbers.specs.declared.refusal.Refusal.{Refusal}
 use Rattle.numbers.specs.declared.refusal.Refusal.TheVariants.{Lists, Past, Crosses}
 use Rattle.regionmap.specs.RunRecords.{data_end, in_file, among_refusal, among, ByStart, RunFor, AnsweredAmong}
 use Rattle.regionmap.specs.Map.{Placement, EndToEnd, Sound, Lays, limit, too_few, last_at, run_of, locate_refusal, locate_of}
-use Rattle.numbers.proofs.Cases.{cases, both_ways}
+use Rattle.numbers.proofs.Cases.{cases, both_ways, by_eq}
 use Rattle.std.proofs.lemmas.List.{get_or-map}
 use Rattle.numbers.proofs.Lists.{any_of, any_at, all_at}
 use Rattle.regionmap.proofs.Bytes.{last_none, run_at}
 use Rattle.regionmap.proofs.ByExtents.{locate_one}
-use Rattle.regionmap.proofs.Order.{laid_rising}
+use Rattle.regionmap.proofs.Order.{laid_rising, laid_last}
 
 -- ---- which run is read
 
@@ -50,49 +50,63 @@ module _ (rs : List Run) (p : ℕ) where
   pub last_read : RunFor rs p (run_of rs p)
   last_read = record { listed = last_listed p blank_run rs; from = last_from p blank_run rs (omega arith); right = λ o. refl }
 
-  -- that in front of the place which the search finds
-  pub found_read : (k : ℕ) → Found (map (λ (r : Run). r.start) rs) (length rs) p k → RunFor rs p (get_or (blank_run ∷ rs) k blank_run)
-  found_read zero g =
+pub empty_read : (rs : List Run) (p : ℕ) → length rs ≡ 0 → RunFor rs p blank_run
+unfolding last_at
+empty_read [] p e = last_read [] p
+empty_read (r ∷ rs) p e = absurd (omega arith)
+
+-- the search among those behind the first finds it, where it starts at or below the position
+module _ (r : Run) (qs : List Run) (p k : ℕ) (g : Found (map (λ (q : Run). q.start) qs) (length qs) p k) where
+  abbrev at : ℕ → Run
+  at j = get_or (r ∷ qs) j blank_run
+
+  start_at : (j : ℕ) → j < length qs → get_or (map (λ (q : Run). q.start) qs) j 0 ≡ (at (suc j)).start
+  start_at j h = get_or-map (λ (q : Run). q.start) qs j blank_run 0 h
+
+  rest_by_start : ByStart (r ∷ qs) → ByStart qs
+  rest_by_start o i j l h = o (suc i) (suc j) (omega arith) (omega arith)
+
+  -- those behind it start above the position
+  behind : ByStart (r ∷ qs) → (j : ℕ) → k < j → j < length (r ∷ qs) → p < (at j).start
+  behind o zero l h = absurd (omega arith)
+  behind o (suc j) l h = let a = g.above (rest_by_start o) j (omega arith) (omega arith) in omega (arith, a, start_at j (omega arith))
+
+  pub found_read : (at k).start ≤ p → RunFor (r ∷ qs) p (at k)
+  found_read s =
+      let h : k < length (r ∷ qs) = omega (arith, g.inside) in
+      record {
+        listed = inr (any_of (λ (q : Run). at k ≡ q) (r ∷ qs) k blank_run h refl);
+        from = s;
+        right = λ o. sym (run_at (r ∷ qs) p k h s (behind o));
+      }
+
+  -- and only the first may start above it
+  first_alone : p < (at k).start → k ≡ 0
+  first_alone s = by_eq k 0 (λ e. e) (λ d. let b = g.below (omega (arith, d)) in let e : suc (k - 1) ≡ k = omega (arith, d) in absurd (omega (arith, b, s, start_at (k - 1) (omega (arith, d, g.inside)), ap (λ (j : ℕ). (at j).start) e)))
+
+  pub none_read : p < (at k).start → RunFor (r ∷ qs) p blank_run
+  none_read s =
+      let z = first_alone s in
+      let t = ap (λ (j : ℕ). (at j).start) z in
       record {
         listed = inl refl;
         from = omega arith;
-        right = λ o. sym (last_none p blank_run rs (λ j h. let a = g.above o j (omega arith) h in let m = get_or-map (λ (r : Run). r.start) rs j blank_run 0 h in omega (arith, a, m)));
-      }
-  found_read (suc k) g =
-      let m = get_or-map (λ (r : Run). r.start) rs k blank_run 0 g.inside in
-      let d : suc k - 1 ≡ k = omega arith in
-      let s : (get_or rs k blank_run).start ≤ p = omega (arith, m, ap (λ (i : ℕ). get_or (map (λ (r : Run). r.start) rs) i 0) d, g.below (omega arith)) in
-      record {
-        listed = inr (any_of (λ (q : Run). get_or rs k blank_run ≡ q) rs k blank_run g.inside refl);
-        from = s;
-        right = λ o. sym (run_at rs p k g.inside s (λ j h l. let a = g.above o j h l in let n = get_or-map (λ (r : Run). r.start) rs j blank_run 0 l in omega (arith, a, n)));
+        right = λ o. sym (last_none p blank_run (r ∷ qs) (λ j h. by_eq j 0 (λ e. omega (arith, s, t, ap (λ (i : ℕ). (at i).start) e)) (λ d. behind o j (omega (arith, z, d)) h)));
       }
 
--- the last run ends where they all end
-last_end : (r : Run) (rs : List Run) → (get_or (r ∷ rs) (length rs) blank_run).start + (get_or (r ∷ rs) (length rs) blank_run).len ≡ data_end (r ∷ rs)
-unfolding data_end
-last_end r [] = refl
-last_end r (q ∷ qs) = last_end q qs
-
-end_of_last : (rs : List Run) → (get_or (blank_run ∷ rs) (length rs) blank_run).start + (get_or (blank_run ∷ rs) (length rs) blank_run).len ≡ data_end rs
-unfolding data_end
-end_of_last [] = refl
-end_of_last (r ∷ rs) = last_end r rs
-
--- a u64 passes their sum where it passes the sum that stops
-pub stop_passed : (s len : ℕ) (r : Run) (rs : List Run) → len ≤ top → r ≡ get_or (blank_run ∷ rs) (length rs) blank_run → s ≡ stop (r.start + r.len) → ltb s len ≡ ltb (data_end rs) len
-stop_passed s len r rs h e f =
-    let d : r.start + r.len ≡ data_end rs = ap (λ (q : Run). q.start + q.len) e ∙ end_of_last rs in
-    both_ways _ _ (λ a. let b : s < len = ltb-true _ _ a in lt-ltb _ _ (omega (arith, b, h, d, f)))
-    (λ a. let b : data_end rs < len = ltb-true _ _ a in lt-ltb _ _ (omega (arith, b, h, d, f)))
+-- a u64 passes the sum of two where it passes the sum that stops
+pub stop_passed : (s a b len : ℕ) → len ≤ top → s ≡ stop (a + b) → ltb s len ≡ ltb (a + b) len
+stop_passed s a b len h e =
+    both_ways _ _ (λ t. let l : s < len = ltb-true _ _ t in lt-ltb _ _ (omega (arith, l, h, e)))
+    (λ t. let l : a + b < len = ltb-true _ _ t in lt-ltb _ _ (omega (arith, l, h, e)))
 
 -- ---- the answer, test by test
 
 -- how far a range reaches, from the position's run on
-into_run : (s f p n : ℕ) → s ≤ p → ltb (s + f) (p + n) ≡ ltb f (p - s + n)
+into_run : (s f p n : ℕ) → s ≤ p → ltb (s + f) (p + n) ≡ ltb f (p + n - s)
 into_run s f p n h =
     both_ways _ _ (λ a. let b : s + f < p + n = ltb-true _ _ a in lt-ltb _ _ (omega (arith, h, b)))
-    (λ a. let b : f < p - s + n = ltb-true _ _ a in lt-ltb _ _ (omega (arith, h, b)))
+    (λ a. let b : f < p + n - s = ltb-true _ _ a in lt-ltb _ _ (omega (arith, h, b)))
 
 module _ (rs : List Run) (len p n : ℕ) where
   pub among_many : ltb (limit + 1) (length rs) ≡ true → AnsweredAmong rs len p n (Err Lists)
@@ -106,7 +120,7 @@ module _ (rs : List Run) (len p n : ℕ) where
 
     module _ (b : (ltb (data_end rs) len || ltb len (p + n)) ≡ false) (r : Run) (f : RunFor rs p r) where
       abbrev across : Bool
-      across = ltb (in_file r) (p - r.start + n)
+      across = ltb (in_file r) (p + n - r.start)
 
       pub among_across : across ≡ true → AnsweredAmong rs len p n (Err Crosses)
       unfolding among_refusal first refuse answer
@@ -119,19 +133,14 @@ module _ (rs : List Run) (len p n : ℕ) where
       -- the byte is no more than 2^64 - 1
       pub among_fits : across ≡ false → r.file ≤ top → r.file + (p - r.start) ≤ top
       unfolding end_of
-      among_fits c h = let d : p - r.start + n ≤ in_file r = ltb-false _ _ c in omega (arith, h, d)
+      among_fits c h = let d : p + n - r.start ≤ in_file r = ltb-false _ _ c in omega (arith, h, d, f.from)
 
 -- ---- of a map's runs the answer is the map's
-
-laid_end : (r : Run) (rs : List Run) (a cap : ℕ) → EndToEnd a (r ∷ rs) cap → data_end (r ∷ rs) ≡ cap
-unfolding data_end
-laid_end r [] a cap l = omega (arith, l.0, l.1)
-laid_end r (q ∷ qs) a cap l = laid_end q qs (a + r.len) cap l.1
 
 all_end : (rs : List Run) (cap : ℕ) → EndToEnd 0 rs cap → data_end rs ≡ cap
 unfolding data_end
 all_end [] cap l = l
-all_end (r ∷ rs) cap l = laid_end r rs 0 cap l
+all_end (r ∷ rs) cap l = laid_last (r ∷ rs) 0 cap (length (r ∷ rs) - 1) l (omega arith)
 
 module _ (m : Placement) (s : Sound m) where
   by_start : ByStart m.runs

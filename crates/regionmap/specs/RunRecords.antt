@@ -1,5 +1,5 @@
 -- Document 01, "The lookup among published runs reads a lent list of run records": what it answers, by the records alone.
-use Rattle.std.specs.Prelude.{ℕ, ◌+◌, ◌-◌, ◌≤◌, ◌||◌, List, [], ◌∷◌, map, ◌≡◌, ltb, length, Result}
+use Rattle.std.specs.Prelude.{ℕ, ◌+◌, ◌-◌, ◌≤◌, ◌||◌, List, [], ◌∷◌, map, ◌≡◌, ltb, length, get_or, Result}
 use Rattle.numbers.specs.Lists.{Any}
 use Rattle.numbers.specs.Range.{range, end_of}
 use Rattle.numbers.specs.Refusals.{refuse, first, Answer, answer, told}
@@ -9,11 +9,12 @@ use Rattle.runs.specs.Runs.{blank_run, run_byte}
 use Rattle.runs.specs.declared.Run.{Run}
 use Rattle.regionmap.specs.Map.{limit, run_of}
 
--- Where the runs end in the data: their capacity.
+-- Where the last run ends in the data: the capacity. Without a run it is 0.
+abbrev pub last_run : List Run → Run
+last_run rs = get_or rs (length rs - 1) blank_run
+
 unfoldable pub data_end : List Run → ℕ
-data_end [] = 0
-data_end (r ∷ []) = r.start + r.len
-data_end (r ∷ q ∷ rs) = data_end (q ∷ rs)
+data_end rs = (last_run rs).start + (last_run rs).len
 
 -- How much of a run the file has: a range's "end is min(offset + length, 2^64 - 1)".
 abbrev pub in_file : Run → ℕ

@@ -1,33 +1,39 @@
 // The lookup of a position among run records.
-ghost use Rattle.std.specs.Prelude.{◌≡◌, ◌≤◌, ◌∷◌, length, get_or, ltb};
-ghost use Rattle.regionmap.specs.RunRecords.{AnsweredAmong, data_end, in_file};
-ghost use Rattle.runs.specs.Runs.{blank_run};
+ghost use Rattle.std.specs.Prelude.{◌≡◌, ltb};
+ghost use Rattle.regionmap.specs.RunRecords.{AnsweredAmong, RunFor, data_end, in_file};
 
 use crate::MOST;
 use crate::search::find_run;
 use numbers::{Refusal, passes};
 use runs::Run;
 
-// The run in front of place k, an empty one at byte 0 where there is none.
-fn in_front(runs: &[Run], k: usize) -> Run
-    requires { k ≤ length runs.now }
-    ensures { result ≡ get_or (blank_run ∷ runs.now) k blank_run }
+// The first run of a map without extents.
+const EMPTY: Run = Run {
+    start: 0,
+    file: 0,
+    len: 0,
+};
+
+// The run in which pos lies, where it lies in one.
+fn run_for(runs: &[Run], pos: u64) -> Run
+    ensures { RunFor runs.now pos result }
 {
-    if k == 0 {
-        return Run {
-            start: 0,
-            file: 0,
-            len: 0,
-        };
+    let Some((_, later)) = runs.split_first() else {
+        return EMPTY;
+    };
+    // of one run alone no start is read
+    let run = runs[find_run(later, pos)];
+    if pos < run.start {
+        return EMPTY;
     }
-    runs[k - 1]
+    run
 }
 
 // Whether len passes the end of the last run.
 fn end_passed(runs: &[Run], len: u64) -> bool
     ensures { result ≡ ltb (data_end runs.now) len }
 {
-    let last = in_front(runs, runs.len());
+    let last = runs.last().copied().unwrap_or(EMPTY);
     last.start.saturating_add(last.len) < len
 }
 
@@ -50,10 +56,10 @@ pub fn locate_among(runs: &[Run], len: u64, pos: u64, n: u64) -> Result<u64, Ref
     if end_passed(runs, len) || passes(pos, n, len) {
         return Err(Refusal::Past);
     }
-    let run = in_front(runs, find_run(runs, pos));
-    let into = pos - run.start;
-    if passes(into, n, in_file(run)) {
+    let run = run_for(runs, pos);
+    // pos + n is at most len
+    if pos + n - run.start > in_file(run) {
         return Err(Refusal::Crosses);
     }
-    Ok(run.file + into)
+    Ok(run.file + (pos - run.start))
 }

@@ -89,8 +89,20 @@ pub(crate) fn replay(accounts: &mut Accounting, call: &[u64]) -> bool {
         return false;
     };
     let answer = answered(call, *accounts);
+    let row = posted_alone(call, accounts.row(call.tag));
     *accounts = answer.accounts;
-    alike(call, answer)
+    let alone = answer.told.is_err() || row.is_none_or(|row| row_alike(row, call.due, 5));
+    alike(call, answer) && alone
+}
+
+// The row of the call's tag with its usage posted on it alone, where it posts one.
+fn posted_alone(call: Call, mut row: TagSpace) -> Option<TagSpace> {
+    match call.kind {
+        Kind::AddUsage => row.count_usage(call.a, call.b),
+        Kind::RemoveUsage => row.uncount_usage(call.a, call.b),
+        _ => return None,
+    }
+    Some(row)
 }
 
 // A call's answer, with a value where it is so, and the accounts after it.

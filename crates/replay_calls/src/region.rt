@@ -1,8 +1,10 @@
 // The region map's calls, on one map with its lists of starts and files. A call: its number, two
 // arguments, how many places of starts and files are lent, and a list; refusal, value, the map's five
-// numbers, and the last run's start and file.
+// numbers, and the last run's start and file. The lookup among run records is lent the list's runs, each its
+// file offset and length.
 use numbers::{Refusal, number_in};
-use regionmap::RegionMap;
+use regionmap::{RegionMap, locate_among};
+use runs::Run;
 use sample::words::{at, front, has, kept, list, past, past_list};
 
 #[derive(Clone, Copy, PartialEq, Eq)]
@@ -13,6 +15,7 @@ enum Kind {
     Extend,
     Locate,
     Runs,
+    LocateAmong,
 }
 
 impl TryFrom<u64> for Kind {
@@ -26,6 +29,7 @@ impl TryFrom<u64> for Kind {
             4 => Ok(Kind::Extend),
             5 => Ok(Kind::Locate),
             6 => Ok(Kind::Runs),
+            7 => Ok(Kind::LocateAmong),
             _ => Err(()),
         }
     }
@@ -41,7 +45,7 @@ struct Call<'a> {
     due: &'a [u64],
 }
 
-// The call, where it is one of the six, and is lent no more places than there are.
+// The call, where it is one of the seven, and is lent no more places than there are.
 fn read(call: &[u64]) -> Option<Call<'_>> {
     let lists = past(call, 4);
     let call = Call {
@@ -132,7 +136,31 @@ fn answered(
         Kind::Extend => mapped(map, map.extend(a, b, starts, files)),
         Kind::Locate => given(map, map.locate(starts, files, a, b)),
         Kind::Runs => given(map, map.runs(starts, files, out).map(|n| n as u64)),
+        Kind::LocateAmong => given(map, among(list, map.len, a, b)),
     }
+}
+
+// The lookup among runs.
+fn among(list: &[u64], len: u64, pos: u64, n: u64) -> Result<u64, Refusal> {
+    let mut room = [Run {
+        start: 0,
+        file: 0,
+        len: 0,
+    }; 80];
+    locate_among(laid(list, &mut room), len, pos, n)
+}
+
+// The runs of a list end to end, as many as there is room for.
+fn laid<'a>(list: &[u64], room: &'a mut [Run]) -> &'a [Run] {
+    let (runs, _) = list.as_chunks::<2>();
+    let fitting = runs.len().min(room.len());
+    let mut start = 0u64;
+    for i in 0..fitting {
+        let [file, len] = runs[i];
+        room[i] = Run { start, file, len };
+        start = start.saturating_add(len);
+    }
+    &room[..fitting]
 }
 
 fn alike(

@@ -5,7 +5,7 @@ use super::sides::flat;
 use crate::random::Random;
 use crate::table::{median, row};
 use oracle::accounts::Accounts as Rust;
-use ours::accounts::{self, MOST, Usages};
+use ours::accounts::{self, Accounts, MOST, Posted, Usages};
 use std::hint::black_box;
 
 /// So many usages of these tags in no order, small enough that no sum stops.
@@ -41,6 +41,9 @@ impl Drawn {
     }
 }
 
+/// Postings in a row by ours, added or removed.
+type Each = fn(Accounts, bool, Usages) -> Posted;
+
 /// A posting to accounts by the Rust, and whether it removes.
 type Postings = (fn(&mut Rust, u32, u64, u64), bool);
 
@@ -59,16 +62,55 @@ fn postings(name: &str, (by_rust, remove): Postings, start: &[(u32, u64, u64)], 
             after = flat(accounts);
         },
     );
-    let mine = median(
-        21,
-        || (),
-        |()| {
-            let posted = accounts::post_each(begun, remove, drawn.lists());
-            assert!(posted.refusal == 0 && posted.accounts == after);
-        },
-    );
+    let ours = |each: Each| {
+        median(
+            21,
+            || (),
+            |()| {
+                let posted = each(begun, remove, drawn.lists());
+                assert!(posted.refusal == 0 && posted.accounts == after);
+            },
+        )
+    };
+    let (mine, lent) = (ours(accounts::post_each), ours(accounts::count_each));
     let one = |t: f64| t / triples.len() as f64;
     row(&format!("{name} among 96 tags"), one(rust), one(mine));
+    row("  in accounts that are lent", one(rust), one(lent));
+}
+
+/// One of so many usages in a row on one tag's row, which the Rust finds among the tag alone.
+fn one_row(drawn: &Drawn) {
+    let start = [(7, 1 << 60, 1 << 60)];
+    let both = || drawn.logical.iter().zip(&drawn.physical);
+    let pairs: Vec<u64> = both().flat_map(|(l, p)| [*l, *p]).collect();
+    let begun = flat(&mut Rust::from_usage(&start)).rows[0];
+    let mut after = begun;
+    let rust = median(
+        21,
+        || Rust::from_usage(&start),
+        |accounts| {
+            for (&logical, &physical) in both() {
+                accounts.add_usage(7, logical, physical);
+            }
+            after = flat(accounts).rows[0];
+        },
+    );
+    let lent = median(
+        21,
+        || begun,
+        |row| {
+            accounts::row_count_each(row, black_box(&pairs));
+            assert_eq!(*row, after);
+        },
+    );
+    let value = median(
+        21,
+        || begun,
+        |row| assert_eq!(accounts::row_add_each(*row, black_box(&pairs)), after),
+    );
+    let one = |t: f64| t / (pairs.len() / 2) as f64;
+    row("a usage on one tag's row, lent", one(rust), one(lent));
+    row("  by value", one(rust), one(value));
 }
 
 /// About half of the questions are within the cap.
@@ -131,6 +173,7 @@ pub fn bench(random: &mut Random) {
     let remove: Postings = (Rust::remove_usage, true);
     postings("add_usage", add, &start, &drawn);
     postings("remove_usage", remove, &start, &drawn);
+    one_row(&drawn);
     fits(&start, &drawn);
     from_usage("4,000 usages, 96 tags", 4000, &pool, random);
     let few: Vec<u32> = tags(4, random).iter().map(|&t| t as u32).collect();

@@ -110,6 +110,11 @@ impl Call {
         self.tag().is_some() && !matches!(self, Self::Add { .. } | Self::Remove { .. })
     }
 
+    /// Whether it posts one usage.
+    pub fn is_usage(&self) -> bool {
+        matches!(self, Self::AddUsage { .. } | Self::RemoveUsage { .. })
+    }
+
     /// The tags that its lists count.
     pub fn counted(&self) -> Vec<u32> {
         match self {

@@ -20,6 +20,9 @@ fn single(
     posted
 }
 
+/// Postings in a row, added or removed.
+type Each = fn(Accounts, bool, Usages) -> Posted;
+
 /// How many calls were made, or the first that does something else.
 pub fn compare(random: &mut Random) -> Result<usize, String> {
     let rounds = 3000;
@@ -37,12 +40,32 @@ pub fn compare(random: &mut Random) -> Result<usize, String> {
             physical: &physical,
         };
         let added = single(accounts::empty(), usages, accounts::add_usage);
-        if accounts::post_each(accounts::empty(), false, usages) != added {
-            return Err(format!("post_each, adding {some:?}, differs"));
-        }
         let removed = single(added.accounts, usages, accounts::remove_usage);
-        if accounts::post_each(added.accounts, true, usages) != removed {
-            return Err(format!("post_each, removing {some:?}, differs"));
+        for (name, each) in [
+            ("post_each", accounts::post_each as Each),
+            ("count_each", accounts::count_each),
+        ] {
+            if each(accounts::empty(), false, usages) != added {
+                return Err(format!("{name}, adding {some:?}, differs"));
+            }
+            if each(added.accounts, true, usages) != removed {
+                return Err(format!("{name}, removing {some:?}, differs"));
+            }
+        }
+        let start = accounts::row_at(added.accounts, i % MOST);
+        let pairs: Vec<u64> = logical
+            .iter()
+            .zip(&physical)
+            .flat_map(|(l, p)| [*l, *p])
+            .collect();
+        let mut due = start;
+        for pair in pairs.chunks_exact(2) {
+            due = accounts::row_add_usage(due, pair[0], pair[1]);
+        }
+        let mut lent = start;
+        accounts::row_count_each(&mut lent, &pairs);
+        if lent != due || accounts::row_add_each(start, &pairs) != due {
+            return Err(format!("{start:?} after each of {pairs:?} is not {due:?}"));
         }
         let mut capped = added.accounts;
         for row in &mut capped.rows[..capped.count] {
@@ -66,6 +89,7 @@ pub fn compare(random: &mut Random) -> Result<usize, String> {
                 accounts: capped,
             };
             if accounts::post_each(capped, false, short) != refused
+                || accounts::count_each(capped, false, short) != refused
                 || accounts::fits_each(capped, &some, &extra[1..]) != (1, 0)
             {
                 return Err(format!("lists of {n} and {} are taken", n - 1));
@@ -78,5 +102,5 @@ pub fn compare(random: &mut Random) -> Result<usize, String> {
             ));
         }
     }
-    Ok(3 * rounds)
+    Ok(7 * rounds)
 }

@@ -20,6 +20,8 @@ pub struct Answer {
     pub row_at: Row,
     /// What the call makes of its tag's row by itself, and whether the bytes fit.
     pub alone: Option<(Row, bool)>,
+    /// What the posting of one usage makes of its tag's row where that is lent.
+    pub lent: Option<Row>,
 }
 
 /// Which rows are read after a call: those of two tags, and the one at a place.
@@ -89,6 +91,7 @@ fn read(
         rows: probe.tags.map(row),
         row_at: rows.get(probe.place).copied().unwrap_or_default(),
         alone: (refusal == 0 && call.is_on_row()).then(|| (row(probe.tags[0]), fits)),
+        lent: (refusal == 0 && call.is_usage()).then(|| row(probe.tags[0])),
     }
 }
 
@@ -222,6 +225,30 @@ fn by_row(row: Row, call: &Call) -> Option<(Row, bool)> {
     Some((after, false))
 }
 
+/// Posts a usage on a tag's row that is lent from between two others, which stay as they are.
+fn by_lent_row(row: Row, call: &Call) -> Option<Row> {
+    let other = Row {
+        tag: 7_000_001,
+        logical: 7_000_002,
+        ..row
+    };
+    let mut rows = [other, row, other];
+    match *call {
+        Call::AddUsage {
+            logical, physical, ..
+        } => accounts::row_count_usage(&mut rows[1], logical, physical),
+        Call::RemoveUsage {
+            logical, physical, ..
+        } => accounts::row_uncount_usage(&mut rows[1], logical, physical),
+        _ => return None,
+    }
+    assert!(
+        rows[0] == other && rows[2] == other,
+        "{call:?} leaves {rows:?}"
+    );
+    Some(rows[1])
+}
+
 impl Sides {
     pub fn new() -> Self {
         let mut rust = Rust::default();
@@ -275,11 +302,8 @@ impl Sides {
             reserved: accounts::reserved(self.ours),
             rows: probe.tags.map(|tag| accounts::row(self.ours, tag)),
             row_at: accounts::row_at(self.ours, probe.place),
-            alone: if refusal == 0 {
-                by_row(before, call)
-            } else {
-                None
-            },
+            alone: (refusal == 0).then(|| by_row(before, call)).flatten(),
+            lent: (refusal == 0).then(|| by_lent_row(before, call)).flatten(),
         }
     }
 

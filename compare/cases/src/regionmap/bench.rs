@@ -5,7 +5,7 @@ use crate::flat::{flat, pairs, spread};
 use crate::random::Random;
 use crate::table::{median, row};
 use oracle::map::Map;
-use ours::map::Map as Numbers;
+use ours::map::{Map as Numbers, Run, locate_among_each};
 use std::hint::black_box;
 
 /// A map of ours and its lists.
@@ -88,8 +88,31 @@ fn locate(name: &str, runs: usize, random: &mut Random) {
         },
     );
     assert_eq!(by_rust, by_ours);
+    let records = records(&map);
+    let mut by_records = vec![0; n];
+    let among = median(
+        11,
+        || (),
+        |()| {
+            let located = locate_among_each(&records, len, &positions, 1, &mut by_records);
+            assert_eq!(located, n as u64);
+        },
+    );
+    assert_eq!(by_rust, by_records);
     let one = |t: f64| t / n as f64;
     row(&format!("locate in {name}"), one(rust), one(mine));
+    row("  among them as records", one(rust), one(among));
+}
+
+/// The map's runs.
+fn records(map: &Map) -> Vec<Run> {
+    let mut start = 0;
+    let record = |(file, len)| {
+        let run = Run { start, file, len };
+        start += len;
+        run
+    };
+    map.extents().map(record).collect()
 }
 
 /// A map without extents is extended by each extent in turn. The Rust makes room for runs in chunks

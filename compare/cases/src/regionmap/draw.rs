@@ -1,7 +1,7 @@
 //! Random sequences of calls.
 
 use super::sequence::{
-    EXTEND, EXTENTS, FROM_EXTENTS, LOCATE, PUBLISH_LEN, Sequence, Told, WITH_ROOM,
+    EXTEND, EXTENTS, FROM_EXTENTS, LOCATE, LOCATE_AMONG, PUBLISH_LEN, Sequence, Told, WITH_ROOM,
 };
 use super::sides::MOST;
 use crate::flat::{pairs, spread};
@@ -183,7 +183,8 @@ fn locate(runs: u64, random: &mut Random) -> Told {
         9..13 => (1, near(random)),
         _ => (0, 1),
     };
-    told(LOCATE, pos, n, random)
+    let call = [LOCATE, LOCATE, LOCATE_AMONG][random.below(3) as usize];
+    told(call, pos, n, random)
 }
 
 /// Some call; there are about so many runs.
@@ -239,13 +240,14 @@ pub fn of_runs(n: usize, random: &mut Random) -> Sequence {
     Sequence::new(n, random.next(), &list, &[[FROM_EXTENTS, 0, 0, 1, 0, 0, 0]])
 }
 
-/// `locate` at so many runs' starts and beside them, at 0, at the ends of data and capacity and
+/// Both lookups at so many runs' starts and beside them, at 0, at the ends of data and capacity and
 /// beside them, with each length that may matter there.
 pub fn sweep(runs: usize) -> Vec<Told> {
     let starts = (4..).take(runs).chain([0, 1, 2]);
     let lengths = [(0, 0), (0, 1), (0, 2), (1, 0), (1, 1), (2, 0), (2, 1)];
     starts
         .flat_map(|from| [0, 1, 2].map(|by| (from, by)))
-        .flat_map(|(from, by)| lengths.map(|n| [LOCATE, from, by, n.0, n.1, 0, 0]))
+        .flat_map(|(from, by)| lengths.map(|n| [from, by, n.0, n.1]))
+        .flat_map(|[a, b, c, d]| [LOCATE, LOCATE_AMONG].map(|call| [call, a, b, c, d, 0, 0]))
         .collect()
 }

@@ -4,7 +4,7 @@ use super::draw::{Size, extents};
 use crate::flat::flat;
 use crate::lent::Lent;
 use crate::random::Random;
-use ours::map::Map;
+use ours::map::{Map, Run};
 
 const PLACES: usize = 16;
 
@@ -77,6 +77,35 @@ fn locates(mut map: Map, [starts, files]: &[Vec<u64>; 2], random: &mut Random) -
     located == due && lent.back() == ats
 }
 
+/// Among runs of two bytes, each some bytes behind the one before it; every other position lies in one of them.
+fn locates_among(random: &mut Random) -> bool {
+    let many = 1 + random.below(8);
+    let run = |k| Run {
+        start: 2 * k,
+        file: 100 + 5 * k,
+        len: 2,
+    };
+    let runs: Vec<Run> = (0..many).map(run).collect();
+    let published = 1 + random.below(2 * many);
+    let positions: Vec<u64> = (0..random.below(12))
+        .map(|_| random.next() % (2 * published))
+        .collect();
+    let mut ats: Vec<u64> = (8_000_000..).take(random.below(16) as usize).collect();
+    let mut lent = Lent::new(&ats);
+    let mut due = 0;
+    if positions.len() <= ats.len() {
+        for (at, &pos) in ats.iter_mut().zip(&positions) {
+            let (refusal, byte) = ours::map::locate_among(&runs, published, pos, 1);
+            if refusal == 0 {
+                *at = byte;
+                due += 1;
+            }
+        }
+    }
+    let located = ours::map::locate_among_each(&runs, published, &positions, 1, lent.list());
+    located == due && lent.back() == ats
+}
+
 /// How many calls were made, or the first that does something else.
 pub fn compare(random: &mut Random) -> Result<usize, String> {
     let rounds = 50_000;
@@ -87,6 +116,7 @@ pub fn compare(random: &mut Random) -> Result<usize, String> {
             ("extend_each", extends(map, &lists, &mut Random::new(seed))),
             ("publish_each", publishes(map, &mut Random::new(seed))),
             ("locate_each", locates(map, &lists, &mut Random::new(seed))),
+            ("locate_among_each", locates_among(&mut Random::new(seed))),
         ];
         if let Some((name, _)) = calls.iter().find(|(_, alike)| !alike) {
             return Err(format!(
@@ -94,5 +124,5 @@ pub fn compare(random: &mut Random) -> Result<usize, String> {
             ));
         }
     }
-    Ok(3 * rounds)
+    Ok(4 * rounds)
 }

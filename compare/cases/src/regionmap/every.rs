@@ -1,7 +1,8 @@
 //! Every sequence of a few calls with small numbers, and with numbers at the limits.
 
 use super::sequence::{
-    EXTEND, EXTENTS, FROM_EXTENTS, LOCATE, PUBLISH_LEN, Sequence, Told, WITH_ROOM, plain,
+    EXTEND, EXTENTS, FROM_EXTENTS, LOCATE, LOCATE_AMONG, PUBLISH_LEN, Sequence, Told, WITH_ROOM,
+    plain,
 };
 
 const MAX: u64 = u64::MAX;
@@ -65,6 +66,7 @@ pub fn located_at_the_limits(check: Check) -> Result<(), String> {
             calls.extend(LIMITS.map(|len| plain(PUBLISH_LEN, len, 0)));
             for pos in LIMITS {
                 calls.extend(LIMITS.map(|n| plain(LOCATE, pos, n)));
+                calls.extend(LIMITS.map(|n| plain(LOCATE_AMONG, pos, n)));
             }
             check(&Sequence::new(2, 0, &list, &calls))?;
         }
@@ -84,7 +86,9 @@ pub fn tiny(check: Check) -> Result<(), String> {
                 for data in 0..=bytes + 1 {
                     calls.push(plain(PUBLISH_LEN, data, 0));
                     for pos in 0..=data + 1 {
-                        calls.extend((0..=data + 1 - pos).map(|n| plain(LOCATE, pos, n)));
+                        for n in 0..=data + 1 - pos {
+                            calls.extend([LOCATE, LOCATE_AMONG].map(|call| plain(call, pos, n)));
+                        }
                     }
                 }
                 check(&Sequence::new(2, 0, &list, &calls))?;

@@ -2,7 +2,7 @@
 
 use super::draw::{Size, any, extend, extents, sweep};
 use super::sequence::{
-    EXTEND, EXTENTS, FROM_EXTENTS, LOCATE, PUBLISH_LEN, Sequence, WITH_ROOM, plain,
+    EXTEND, EXTENTS, FROM_EXTENTS, LOCATE, LOCATE_AMONG, PUBLISH_LEN, Sequence, WITH_ROOM, plain,
 };
 use super::sides::{Answer, Call, Sides};
 use super::{CALLS, Tally};
@@ -17,16 +17,23 @@ const FILLING: u64 = 7;
 /// A line: the call's number, its two arguments, the places that its lists have, the list that it is
 /// given or fills; its refusal and value, the map's numbers, the last run's slots.
 fn line(call: &Call, places: usize, answer: &Answer, sides: &Sides) -> String {
+    let runs: Vec<u64> = match call {
+        Call::LocateAmong { .. } => sides
+            .records()
+            .iter()
+            .flat_map(|r| [r.file, r.len])
+            .collect(),
+        Call::Extents { .. } => answer.out[..2 * answer.value as usize].to_vec(),
+        _ => Vec::new(),
+    };
     let (word, code, a, b, list) = match *call {
         Call::FromExtents { ref extents, len } => ("make", 1, len, 0, &extents[..]),
         Call::WithRoom { asked } => ("room", 2, asked as u64, 0, &[][..]),
         Call::PublishLen { len } => ("publish", 3, len, 0, &[][..]),
         Call::Extend { file, n } => ("extend", 4, file, n, &[][..]),
         Call::Locate { pos, n } => ("locate", 5, pos, n, &[][..]),
-        Call::Extents { out } => {
-            let runs = &answer.out[..2 * answer.value as usize];
-            ("runs", 6, out as u64, 0, runs)
-        }
+        Call::Extents { out } => ("runs", 6, out as u64, 0, &runs[..]),
+        Call::LocateAmong { pos, n } => ("among", 7, pos, n, &runs[..]),
     };
     let map = &sides.due;
     let (start, file) = match map.count {
@@ -56,6 +63,9 @@ fn marks() -> Sequence {
         plain(LOCATE, 19, 1),
         plain(LOCATE, 20, 1),
         plain(LOCATE, 19, 2),
+        plain(LOCATE_AMONG, 19, 1),
+        plain(LOCATE_AMONG, 20, 1),
+        plain(LOCATE_AMONG, 19, 2),
     ];
     Sequence::new(PLACES, 0, &extents, &calls)
 }
@@ -113,14 +123,14 @@ fn drawn(i: usize, n: usize, size: Size, random: &mut Random) -> Sequence {
     }
     calls.push([PUBLISH_LEN, 2, 0, 0, 0, 0, 0]);
     let sweep = sweep(n + 2);
-    for _ in 0..3 {
+    for _ in 0..5 {
         calls.push(sweep[random.below(sweep.len() as u64) as usize]);
     }
     calls.push([EXTENTS, 0, 0, 0, 0, 0, 0]);
     Sequence::new(PLACES, 0, &extents(n, 3, size, random), &calls)
 }
 
-/// Lines `make`, `room`, `publish`, `extend`, `locate` and `runs`.
+/// Lines `make`, `room`, `publish`, `extend`, `locate`, `runs` and `among`.
 pub fn sample(random: &mut Random) -> String {
     let mut text = String::from(
         "-- regionmap.rs, calls on one map: call, two arguments, places of the lists, a list = refusal, value, the five numbers, the last run's start and file.

@@ -18,6 +18,7 @@ pub const PUBLISH_LEN: u64 = 2;
 pub const EXTEND: u64 = 3;
 pub const LOCATE: u64 = 4;
 pub const EXTENTS: u64 = 5;
+pub const LOCATE_AMONG: u64 = 6;
 
 /// A call with its arguments, in lists just long enough. `from_extents` is given all the extents, and
 /// its length second.
@@ -110,12 +111,16 @@ impl Sequence {
                 let n = at_distance(rest.1, base);
                 Call::Extend { file, n }
             }
-            LOCATE => {
+            LOCATE | LOCATE_AMONG => {
                 let pos = position((from, by), sides);
                 let end = sides.run(sides.run_of(pos)).2;
                 let base = [pos, end, map.data][rest.0.min(2) as usize];
                 let n = at_distance(rest.1, base.wrapping_sub(pos));
-                Call::Locate { pos, n }
+                if told[0] == LOCATE {
+                    Call::Locate { pos, n }
+                } else {
+                    Call::LocateAmong { pos, n }
+                }
             }
             _ => {
                 let out = at_distance(by, 2 * (map.count as u64 + 1));

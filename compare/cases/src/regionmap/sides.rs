@@ -3,7 +3,7 @@
 use crate::flat::{flat, pairs};
 use crate::lent::Lent;
 use oracle::map::{Map, refusable};
-use ours::map::Map as Numbers;
+use ours::map::{Map as Numbers, Run};
 
 const MAX: u128 = u64::MAX as u128;
 
@@ -21,12 +21,32 @@ const BEFORE: Numbers = Numbers {
 
 #[derive(Debug)]
 pub enum Call {
-    FromExtents { extents: Vec<u64>, len: u64 },
-    WithRoom { asked: usize },
-    PublishLen { len: u64 },
-    Extend { file: u64, n: u64 },
-    Locate { pos: u64, n: u64 },
-    Extents { out: usize },
+    FromExtents {
+        extents: Vec<u64>,
+        len: u64,
+    },
+    WithRoom {
+        asked: usize,
+    },
+    PublishLen {
+        len: u64,
+    },
+    Extend {
+        file: u64,
+        n: u64,
+    },
+    Locate {
+        pos: u64,
+        n: u64,
+    },
+    /// Among the map's runs, as records.
+    LocateAmong {
+        pos: u64,
+        n: u64,
+    },
+    Extents {
+        out: usize,
+    },
 }
 
 /// What a call answers: its refusal, its value or 0, the numbers that it leaves (a reader none) and
@@ -78,7 +98,10 @@ impl Sides {
     pub fn ask(&mut self, call: &Call, places: [usize; 2]) -> Result<u64, Difference> {
         let due = self.ask_due(call, places);
         let ours = self.ask_ours(call, places);
-        let changes = !matches!(call, Call::Locate { .. } | Call::Extents { .. });
+        let changes = !matches!(
+            call,
+            Call::Locate { .. } | Call::LocateAmong { .. } | Call::Extents { .. }
+        );
         if due == ours && (!changes || self.lists_alike()) {
             return Ok(due.refusal);
         }
@@ -138,7 +161,7 @@ impl Sides {
                 0
             }
             Call::WithRoom { asked } => u64::from(asked > MOST || fewer_than(asked.max(map.room))),
-            Call::PublishLen { .. } => 0,
+            Call::PublishLen { .. } | Call::LocateAmong { .. } => 0,
             Call::Extend { .. } | Call::Locate { .. } if fewer_than(map.room) => 1,
             Call::Extend { file, n } if n == 0 || passes(file, n) => 11,
             Call::Extend { n, .. } if passes(map.capacity, n) => 12,
@@ -159,7 +182,7 @@ impl Sides {
         let value = answered.unwrap_or(0);
         match *call {
             Call::FromExtents { .. } if refusal != 0 => changed(refusal, BEFORE),
-            Call::Locate { .. } => read(refusal, value, Vec::new()),
+            Call::Locate { .. } | Call::LocateAmong { .. } => read(refusal, value, Vec::new()),
             Call::Extents { out } => {
                 let mut list = slots(out);
                 if refusal == 0 {
@@ -195,7 +218,9 @@ impl Sides {
                 refusable(|| self.rust.extend(file, n))?;
                 self.follow();
             }
-            Call::Locate { pos, n } => return refusable(|| self.rust.locate(pos, n)),
+            Call::Locate { pos, n } | Call::LocateAmong { pos, n } => {
+                return refusable(|| self.rust.locate(pos, n));
+            }
             Call::Extents { .. } => return Ok(self.rust.extents().count() as u64),
         }
         Ok(0)
@@ -220,6 +245,10 @@ impl Sides {
     }
 
     pub fn ask_ours(&mut self, call: &Call, places: [usize; 2]) -> Answer {
+        if let Call::LocateAmong { pos, n } = *call {
+            let (refusal, at) = ours::map::locate_among(&self.records(), self.ours.data, pos, n);
+            return read(refusal, at, Vec::new());
+        }
         let [starts, files] = &mut self.lent;
         let starts = &mut starts.list()[..places[0]];
         let files = &mut files.list()[..places[1]];
@@ -240,6 +269,7 @@ impl Sides {
                 let (refusal, at) = ours::map::locate(map, starts, files, pos, n);
                 return read(refusal, at, Vec::new());
             }
+            Call::LocateAmong { .. } => unreachable!("it is asked above"),
             Call::Extents { out } => {
                 let mut list = Lent::new(&slots(out));
                 let (refusal, n) = ours::map::runs(map, starts, files, list.list());
@@ -264,6 +294,16 @@ impl Sides {
             self.due.capacity
         };
         (start, file, end)
+    }
+
+    /// The runs as they are due.
+    pub fn records(&self) -> Vec<Run> {
+        let record = |k| {
+            let (start, file, end) = self.run(k);
+            let len = end - start;
+            Run { start, file, len }
+        };
+        (0..=self.due.count).map(record).collect()
     }
 
     /// Which run holds a position.
