@@ -10,7 +10,7 @@ use lib.ListN.{length, get_or}
 use Rattle.std.specs.Prelude.{Result, Ok, Err}
 use borrow.Author.Tests.{leb-true, ltb-true, ltb-false, lt-ltb, le-ltb}
 use Rattle.runs.specs.declared.Run.{Run}
-use Rattle.runs.specs.Runs.{blank_run, byte_of}
+use Rattle.runs.specs.Runs.{blank_run, run_byte, byte_of}
 use Rattle.numbers.specs.Lists.{Any}
 use Rattle.numbers.specs.Refusals.{first, refuse, accepted, answer, told}
 use Rattle.numbers.specs.Search.{Found}
@@ -20,9 +20,11 @@ use Rattle.numbers.specs.declared.refusal.Refusal.{Refusal}
 use Rattle.numbers.specs.declared.refusal.Refusal.TheVariants.{Lists, Past, Crosses}
 use Rattle.regionmap.specs.RunRecords.{data_end, in_file, among_refusal, among, ByStart, RunFor, AnsweredAmong}
 use Rattle.regionmap.specs.Map.{Placement, EndToEnd, Sound, Lays, limit, too_few, last_at, run_of, locate_refusal, locate_of}
-use Rattle.numbers.proofs.Cases.{cases, both_ways, by_eq}
+use Rattle.numbers.proofs.Cases.{cases, both_ways, by_eq, or-false}
 use Rattle.std.proofs.lemmas.List.{get_or-map}
+use Rattle.numbers.proofs.Answers.{accepted_is}
 use Rattle.numbers.proofs.Lists.{any_of, any_at, all_at}
+use Rattle.numbers.proofs.Refusals.{first_all, refuse_none}
 use Rattle.regionmap.proofs.Bytes.{last_none, run_at}
 use Rattle.regionmap.proofs.ByExtents.{locate_one}
 use Rattle.regionmap.proofs.Order.{laid_rising, laid_last}
@@ -134,6 +136,15 @@ module _ (rs : List Run) (len p n : ℕ) where
       pub among_fits : across ≡ false → r.file ≤ top → r.file + (p - r.start) ≤ top
       unfolding end_of
       among_fits c h = let d : p + n - r.start ≤ in_file r = ltb-false _ _ c in omega (arith, h, d, f.from)
+
+-- in whatever order, a byte that is told is that of a run which holds the whole range, below the data's end
+pub told_inside : (rs : List Run) (len p n : ℕ) (c : Result ℕ Refusal) (a : AnsweredAmong rs len p n c) (b : ℕ) → told c ≡ accepted b → (b ≡ run_byte a.run p) × (p + n ≤ a.run.start + in_file a.run) × (p + n ≤ len)
+unfolding among_refusal
+told_inside rs len p n c a b e =
+    let t = accepted_is _ _ _ (sym a.answer ∙ e) in
+    let z = first_all _ t.0 in
+    let past = or-false _ _ (refuse_none 23 _ (omega arith) z.1.0) in
+    (sym t.1, ltb-false _ _ (refuse_none 24 _ (omega arith) z.1.1.0), ltb-false _ _ past.1)
 
 -- ---- of a map's runs the answer is the map's
 
