@@ -88,21 +88,10 @@ pub(crate) fn replay(accounts: &mut Accounting, call: &[u64]) -> bool {
     let Some(call) = read(call) else {
         return false;
     };
+    let row = accounts.row(call.tag);
     let answer = answered(call, *accounts);
-    let row = posted_alone(call, accounts.row(call.tag));
     *accounts = answer.accounts;
-    let alone = answer.told.is_err() || row.is_none_or(|row| row_alike(row, call.due, 5));
-    alike(call, answer) && alone
-}
-
-// The row of the call's tag with its usage posted on it alone, where it posts one.
-fn posted_alone(call: Call, mut row: TagSpace) -> Option<TagSpace> {
-    match call.kind {
-        Kind::AddUsage => row.count_usage(call.a, call.b),
-        Kind::RemoveUsage => row.uncount_usage(call.a, call.b),
-        _ => return None,
-    }
-    Some(row)
+    alike(call, answer) && alone_alike(call, row, answer.told.is_ok())
 }
 
 // A call's answer, with a value where it is so, and the accounts after it.
@@ -192,6 +181,16 @@ fn alike(call: Call, answer: Answer) -> bool {
     numbers_alike(answer, due)
         && row_alike(accounts.row(call.tag), due, 5)
         && rows_alike(call.kind == Kind::Rows, accounts, due)
+}
+
+// Whether a posting of one usage on the row of before, by itself, leaves the same row.
+fn alone_alike(call: Call, mut row: TagSpace, accepted: bool) -> bool {
+    match call.kind {
+        Kind::AddUsage => row.count_usage(call.a, call.b),
+        Kind::RemoveUsage => row.uncount_usage(call.a, call.b),
+        _ => return true,
+    }
+    !accepted || row_alike(row, call.due, 5)
 }
 
 // The refusal, whether it is so, the value, how many rows there are and the bytes reserved.
