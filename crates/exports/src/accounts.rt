@@ -282,9 +282,27 @@ pub extern "C" fn fundravai_row_uncount_usage(flat: &mut FlatRow, logical: u64, 
 // The next five are for the benchmark, where putting the accounts into flat numbers and back would cost
 // more than a posting.
 
+// Whether three lists of usages differ in length.
+#[tactic(auto, unfolding(accounting::specs::Entries::differ))]
+fn uneven(tags: &[u32], logical: &[u64], physical: &[u64]) -> bool
+    ensures { result ≡ differ tags.now logical.now physical.now }
+{
+    tags.len() != logical.len() || tags.len() != physical.len()
+}
+
+// What is handed back where they do: the accounts as they came.
+fn lists_refused(accounts: FlatAccounting) -> FlatPosted
+    ensures { result ≡ record { refusal = 1; accounts = accounts } }
+{
+    FlatPosted {
+        refusal: Refusal::Lists.number(),
+        accounts,
+    }
+}
+
 // Adds or removes each usage in turn, which a flag says, since C has no closure; hands back what the last
 // posting does.
-#[tactic(auto, using(accounting::proofs::Counting::usages_next, accounting::proofs::Counting::usages_end, accounting::proofs::Counting::differ_none, accounting::proofs::Counting::differ_second, accounting::proofs::Counting::differ_third))]
+#[tactic(auto, using(accounting::proofs::Counting::usages_next, accounting::proofs::Counting::usages_end, accounting::proofs::Counting::differ_second, accounting::proofs::Counting::differ_third))]
 #[unsafe(no_mangle)]
 pub extern "C" fn fundravai_accounts_post_each(
     flat: FlatAccounting,
@@ -295,11 +313,8 @@ pub extern "C" fn fundravai_accounts_post_each(
 ) -> FlatPosted
     ensures { PostsEach (differ tags.now logical.now physical.now) remove (usages tags.now logical.now physical.now) flat (accounts_from flat) result }
 {
-    if tags.len() != logical.len() || tags.len() != physical.len() {
-        return FlatPosted {
-            refusal: Refusal::Lists.number(),
-            accounts: flat,
-        };
+    if uneven(tags, logical, physical) {
+        return lists_refused(flat);
     }
     let mut posted = Posted {
         answer: Ok(()),
@@ -316,6 +331,33 @@ pub extern "C" fn fundravai_accounts_post_each(
         }
     }
     posted.into()
+}
+
+// The same by postings in accounts that are lent, and stay where they are.
+#[tactic(auto, using(accounting::proofs::Counting::usages_next, accounting::proofs::Counting::usages_end, accounting::proofs::Counting::differ_second, accounting::proofs::Counting::differ_third))]
+#[unsafe(no_mangle)]
+pub extern "C" fn fundravai_accounts_count_each(
+    flat: FlatAccounting,
+    remove: bool,
+    tags: &[u32],
+    logical: &[u64],
+    physical: &[u64],
+) -> FlatPosted
+    ensures { PostsEach (differ tags.now logical.now physical.now) remove (usages tags.now logical.now physical.now) flat (accounts_from flat) result }
+{
+    if uneven(tags, logical, physical) {
+        return lists_refused(flat);
+    }
+    let mut accounts = Accounting::from(flat);
+    let mut answer = Ok(());
+    for i in 0..tags.len() {
+        answer = if remove {
+            accounts.uncount_usage(tags[i], logical[i], physical[i])
+        } else {
+            accounts.count_usage(tags[i], logical[i], physical[i])
+        };
+    }
+    Posted { answer, accounts }.into()
 }
 
 // Asks for each tag in turn; answers the last refusal, and how many fit.
@@ -344,36 +386,6 @@ pub extern "C" fn fundravai_accounts_fits_each(
         refusal: number_in(asked.answer),
         value: fit,
     }
-}
-
-// The same of accounts that stay where they are.
-#[tactic(auto, using(accounting::proofs::Counting::usages_next, accounting::proofs::Counting::usages_end, accounting::proofs::Counting::differ_none, accounting::proofs::Counting::differ_second, accounting::proofs::Counting::differ_third))]
-#[unsafe(no_mangle)]
-pub extern "C" fn fundravai_accounts_count_each(
-    flat: FlatAccounting,
-    remove: bool,
-    tags: &[u32],
-    logical: &[u64],
-    physical: &[u64],
-) -> FlatPosted
-    ensures { PostsEach (differ tags.now logical.now physical.now) remove (usages tags.now logical.now physical.now) flat (accounts_from flat) result }
-{
-    if tags.len() != logical.len() || tags.len() != physical.len() {
-        return FlatPosted {
-            refusal: Refusal::Lists.number(),
-            accounts: flat,
-        };
-    }
-    let mut accounts = Accounting::from(flat);
-    let mut answer = Ok(());
-    for i in 0..tags.len() {
-        answer = if remove {
-            accounts.uncount_usage(tags[i], logical[i], physical[i])
-        } else {
-            accounts.count_usage(tags[i], logical[i], physical[i])
-        };
-    }
-    Posted { answer, accounts }.into()
 }
 
 // Counts usages, each its data bytes and those that it occupies, on a row that is lent.

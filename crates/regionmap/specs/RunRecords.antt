@@ -9,10 +9,11 @@ use Rattle.runs.specs.Runs.{blank_run, run_byte}
 use Rattle.runs.specs.declared.Run.{Run}
 use Rattle.regionmap.specs.Map.{limit, run_of}
 
--- Where the last run ends in the data: the capacity. Without a run it is 0.
+-- The last run, or the empty one of "a map without extents".
 abbrev pub last_run : List Run → Run
 last_run rs = get_or rs (length rs - 1) blank_run
 
+-- Where it ends in the data: the capacity of runs that lie end to end from 0.
 unfoldable pub data_end : List Run → ℕ
 data_end rs = (last_run rs).start + (last_run rs).len
 

@@ -14,7 +14,7 @@ const EMPTY: Run = Run {
     len: 0,
 };
 
-// The run in which pos lies, where it lies in one.
+// The last run that starts at or below pos, where the runs stand by start; else one that does.
 fn run_for(runs: &[Run], pos: u64) -> Run
     ensures { RunFor runs.now pos result }
 {

@@ -9,7 +9,8 @@ ghost use Rattle.runs.specs.Runs.{Listed};
 use join::join;
 use numbers::{Refusal, pairs_of};
 
-// A run: where it starts in the data and in the file, and its length.
+// A run: where it starts in the data and in the file, and its length. Laid out as in C, so that a caller there
+// may lend a list of them.
 #[repr(C)]
 #[derive(Clone, Copy)]
 pub struct Run {

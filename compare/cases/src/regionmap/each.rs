@@ -77,7 +77,7 @@ fn locates(mut map: Map, [starts, files]: &[Vec<u64>; 2], random: &mut Random) -
     located == due && lent.back() == ats
 }
 
-/// Among runs of two bytes, each some bytes behind the one before it; every other position lies in one of them.
+/// Among runs of two bytes that lie apart in the file; about half of the positions are published.
 fn locates_among(random: &mut Random) -> bool {
     let many = 1 + random.below(8);
     let run = |k| Run {
