@@ -1,22 +1,17 @@
 -- Records and what they mean: the record of a table, and where a tag's row stands in it.
 use Prim.Native.Nat.{ℕ, zero, suc, ◌+◌, ◌-◌, ◌≤◌, ◌<◌}
-use mathlib.Core.List.{List, [], ◌∷◌, ◌++◌}
+use mathlib.Core.List.{List, [], ◌∷◌, ◌++◌, map}
 use mathlib.Core.Path.{◌≡◌, refl, ap, sym, subst, ◌∙◌}
 use native.Mathlib.Omega.{arith}
-use lib.ListN.{length, get_or, take, drop, replicate, length-drop, length-take, get_or-eq_default}
-use lib.Seq.{take-append_seam, get_or-take, get_or-drop, length-take-le}
-use Rattle.accounting.specs.Inner.{Belongs, Sought}
+use lib.ListN.{length, get_or, take, drop, replicate, length-drop, length-take, get_or-map, get_or-eq_default}
+use lib.Seq.{take-append_seam, get_or-take, get_or-drop}
+use Rattle.accounting.specs.Inner.{Belongs, Known}
 use Rattle.accounting.specs.Table.{Table, InTagOrder, Valid, accounts_of, table_of, tag_of}
 use Rattle.accounting.specs.declared.Accounting.{Accounting}
-use Rattle.std.specs.Cmp.{nat_cmp_is}
-use Rattle.std.specs.List.Sorted.{IsNonDecreasingBy, IsBinarySearchResult, IsSearchInRange}
-use Rattle.std.specs.Ordering.{nat_cmp, ordering_index}
-use Rattle.std.specs.Prelude.{Result, Ok, Err}
-use Rattle.std.specs.declared.cmp.Ordering.{Ordering}
-use Rattle.std.specs.declared.cmp.Ordering.TheVariants.{Less, Equal, Greater}
+use Rattle.numbers.specs.Search.{Rising, Found}
 use Rattle.tagspace.specs.Row.{blank}
 use Rattle.tagspace.specs.declared.TagSpace.{TagSpace}
-use Rattle.numbers.proofs.Cases.{by_eq, by_lt}
+use Rattle.numbers.proofs.Cases.{by_eq}
 use Rattle.numbers.proofs.Keyed.{order_at}
 use Rattle.numbers.proofs.Lists.{all_of}
 
@@ -41,45 +36,6 @@ get_or_blanks [] b (suc m) (suc i) = get_or_blanks [] b m i
 get_or_blanks (x ∷ xs) b m zero = refl
 get_or_blanks (x ∷ xs) b m (suc i) = get_or_blanks xs b m i
 
--- what the order of two numbers tells
-module _ (x y : ℕ) where
-  cmp_less : x < y → nat_cmp x y ≡ Less
-  cmp_less h = sym (nat_cmp_is x y Less h)
-
-  cmp_same : x ≡ y → nat_cmp x y ≡ Equal
-  cmp_same h = sym (nat_cmp_is x y Equal h)
-
-  cmp_greater : y < x → nat_cmp x y ≡ Greater
-  cmp_greater h = sym (nat_cmp_is x y Greater h)
-
-  index_of : {o r : Ordering} → nat_cmp x y ≡ o → nat_cmp x y ≡ r → ordering_index o ≡ ordering_index r
-  index_of e f = ap ordering_index (sym e ∙ f)
-
-  is_less : nat_cmp x y ≡ Less → x < y
-  is_less e =
-      by_lt x y (λ h. h)
-      (λ h. by_eq x y (λ q. let z = index_of (cmp_same q) e in omega arith) (λ d. let z = index_of (cmp_greater (omega arith)) e in omega arith))
-
-  is_same : nat_cmp x y ≡ Equal → x ≡ y
-  is_same e =
-      by_eq x y (λ q. q)
-      (λ d. by_lt x y (λ h. let z = index_of (cmp_less h) e in omega arith) (λ h. let z = index_of (cmp_greater (omega arith)) e in omega arith))
-
-  is_greater : nat_cmp x y ≡ Greater → y < x
-  is_greater e =
-      by_lt y x (λ h. h)
-      (λ h. by_eq x y (λ q. let z = index_of (cmp_same q) e in omega arith) (λ d. let z = index_of (cmp_less (omega arith)) e in omega arith))
-
-index_rises : (x y t : ℕ) → x ≤ y → ordering_index (nat_cmp x t) ≤ ordering_index (nat_cmp y t)
-index_rises x y t h =
-    by_lt x t (λ l. let a = ap ordering_index (cmp_less x t l) in omega arith)
-    (λ l. by_eq y t
-    (λ q. let a = ap ordering_index (cmp_same x t (omega arith)) in let b = ap ordering_index (cmp_same y t q) in omega arith)
-    (λ d.
-    let b = ap ordering_index (cmp_greater y t (omega arith)) in
-    by_eq x t (λ q. let a = ap ordering_index (cmp_same x t q) in omega arith)
-    (λ n. let a = ap ordering_index (cmp_greater x t (omega arith)) in omega arith)))
-
 module _ (a : Accounting) (v : Valid a) where
   abbrev xs : List TagSpace
   xs = (table_of a).rows
@@ -98,10 +54,11 @@ module _ (a : Accounting) (v : Valid a) where
   pub row_behind_all : (i : ℕ) → 96 ≤ i → get_or xs i (blank 0) ≡ blank 0
   row_behind_all i h = get_or-eq_default xs (blank 0) (omega (arith, count_rows, v.few))
 
-  rising : (tag : ℕ) → IsNonDecreasingBy (λ (r : TagSpace). ordering_index (nat_cmp r.tag tag)) xs
-  rising tag i j d h l =
-      by_eq i j (λ e. rw e (omega arith))
-      (λ n. index_rises (get_or xs i d).tag (get_or xs j d).tag tag (let s = order_at tag_of xs v.order i j d (omega arith) l in omega arith))
+  rising : Rising (map tag_of a.rows) a.count
+  rising i j h l =
+      let e : (k : ℕ) → get_or (map tag_of a.rows) k 0 ≡ (get_or xs k (blank 0)).tag = λ k. get_or-map tag_of a.rows k (blank 0) ∙ ap tag_of (row_of_record k) in
+      by_eq i j (λ q. rw q (omega arith))
+      (λ n. let s = order_at tag_of xs v.order i j (blank 0) (omega arith) (omega (arith, count_rows, l)) in rw (e i, e j) (omega arith))
 
 -- ---- what the search finds
 
@@ -114,29 +71,35 @@ module _ (a : Accounting) (tag : ℕ) where
         higher = λ v. absurd (omega (arith, v.few, h));
       }
 
-  abbrev front : List TagSpace
-  front = take a.count a.rows
+  module _ (few : a.count ≤ 96) (k : ℕ) (g : Found (map tag_of a.rows) a.count tag k) where
+    pub known : 0 < k → (get_or a.rows (k - 1) (blank 0)).tag ≡ tag → Known a tag (k - 1)
+    known h e = let w = g.inside in record { few = few; inside = omega arith; own = e }
 
-  pub sought : a.count ≤ 96 → (r : Result ℕ ℕ) → IsSearchInRange r (length front) → IsBinarySearchResult (λ (q : TagSpace). nat_cmp q.tag tag) front r → Sought a tag r
-  unfolding table_of
-  sought few (Ok i) b f =
-      let n = length-take a.count a.rows in
-      let h : i < a.count = omega arith in
-      record {
-        few = few;
-        inside = h;
-        own = ap (λ (q : TagSpace). q.tag) (sym (get_or-take a.count a.rows i (blank 0) h)) ∙ is_same _ tag (f (blank 0));
-      }
-  sought few (Err i) b f =
-      let n = length-take a.count a.rows in
-      record {
-        inside = omega arith;
-        lower = λ v.
-            let m : length (take i front) ≡ i = length-take-le i front b in
-            all_of (λ (q : TagSpace). q.tag < tag) (take i front) (blank 0)
-            (λ k h. rw (get_or-take i front k (blank 0) (omega arith)) (is_less _ tag ((f (rising a v tag)).0 k (blank 0) (omega arith) (omega arith))));
-        higher = λ v.
-            let m : length (drop i front) ≡ length front - i = length-drop i front in
-            all_of (λ (q : TagSpace). tag < q.tag) (drop i front) (blank 0)
-            (λ k h. rw (get_or-drop i front k (blank 0)) (is_greater _ tag ((f (rising a v tag)).1 (i + k) (blank 0) (omega arith) (omega arith))));
-      }
+    module _ (v : Valid a) where
+      tag_at : (j : ℕ) → get_or (map tag_of a.rows) j 0 ≡ (get_or (xs a v) j (blank 0)).tag
+      tag_at j = get_or-map tag_of a.rows j (blank 0) ∙ ap tag_of (row_of_record a v j)
+
+      lower_at : (0 < k → (get_or a.rows (k - 1) (blank 0)).tag ≡ tag → ⊥) → (j : ℕ) → j < k → (get_or (xs a v) j (blank 0)).tag < tag
+      lower_at other j h =
+          let w = g.inside in
+          let c = count_rows a v in
+          let l : (get_or (xs a v) (k - 1) (blank 0)).tag ≤ tag = rw (← tag_at (k - 1)) (g.below (omega arith)) in
+          let d = other (omega arith) in
+          let r = ap tag_of (row_of_record a v (k - 1)) in
+          by_eq j (k - 1) (λ q. by_eq (get_or (xs a v) (k - 1) (blank 0)).tag tag (λ z. absurd (d (r ∙ z))) (λ z. rw q (omega arith)))
+          (λ q. let s = order_at tag_of (xs a v) v.order j (k - 1) (blank 0) (omega arith) (omega arith) in omega arith)
+
+      higher_at : (j : ℕ) → k ≤ j → j < a.count → tag < (get_or (xs a v) j (blank 0)).tag
+      higher_at j h l = rw (← tag_at j) (g.above (rising a v) j h l)
+
+    pub belongs : (0 < k → (get_or a.rows (k - 1) (blank 0)).tag ≡ tag → ⊥) → Belongs a tag k
+    belongs other =
+        record {
+          inside = g.inside;
+          lower = λ v.
+              all_of (λ (q : TagSpace). q.tag < tag) (take k (xs a v)) (blank 0)
+              (λ j h. rw (get_or-take k (xs a v) j (blank 0) (let n = length-take k (xs a v) in omega arith)) (lower_at v other j (let n = length-take k (xs a v) in omega arith)));
+          higher = λ v.
+              all_of (λ (q : TagSpace). tag < q.tag) (drop k (xs a v)) (blank 0)
+              (λ j h. rw (get_or-drop k (xs a v) j (blank 0)) (higher_at v (k + j) (omega arith) (let n = length-drop k (xs a v) in let c = count_rows a v in let w = g.inside in omega arith)));
+        }

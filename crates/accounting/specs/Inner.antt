@@ -1,6 +1,5 @@
 -- What the steps of the calls do; no public call promises anything by these.
 use Rattle.std.specs.Prelude.{ℕ, zero, suc, ◌+◌, ◌-◌, ◌≤◌, ◌<◌, cond, List, [], ◌∷◌, ◌++◌, ◌≡◌, ltb, eqb, get_or, take, drop, Option, Result, Ok, Err}
-use Rattle.numbers.specs.declared.refusal.Refusal.{Refusal}
 use Rattle.numbers.specs.declared.refusal.Refusal.TheVariants.{Lists, Full}
 use Rattle.tagspace.specs.Row.{blank}
 use Rattle.accounting.specs.Table.{Valid, table_of}

@@ -1,13 +1,14 @@
 // The rows in tag order: where a tag's row stands, and the calls on it. They change the accounts where they
 // stand: to hand 96 rows to a call and back costs more than the call.
-ghost use Rattle.std.specs.Prelude.{◌≡◌, ◌≤◌};
+ghost use Rattle.std.specs.Prelude.{◌≡◌, ◌≤◌, map};
+ghost use Rattle.numbers.specs.Search.{Found};
 ghost use Rattle.accounting.specs.Inner.{KeepsTag, Sought, inserted};
-ghost use Rattle.accounting.specs.Table.{Posts, Asks, Allows, leaving, on_row, reserving, unreserving};
+ghost use Rattle.accounting.specs.Table.{Posts, Asks, Allows, leaving, on_row, reserving, tag_of, unreserving};
 ghost use Rattle.tagspace.specs.Row.{add_usage, remove_usage, set_cap};
 ghost use Rattle.tagspace.specs.declared.TagSpace.{TagSpace};
 
 use crate::{Accounting, MOST};
-use numbers::Refusal;
+use numbers::{Refusal, advance};
 use tagspace::TagSpace;
 
 impl Accounting {
@@ -19,7 +20,29 @@ impl Accounting {
         if self.count > MOST {
             return Err(0);
         }
-        self.rows[..self.count].binary_search_by_key(&tag, |row| row.tag)
+        let at = self.up_to(tag);
+        if at == 0 {
+            return Err(0);
+        }
+        if self.rows[at - 1].tag != tag {
+            return Err(at);
+        }
+        Ok(at - 1)
+    }
+
+    // How many rows have this tag or a lower one, by halving. The library's search would guess a branch at each step.
+    fn up_to(&self, tag: u32) -> usize
+        requires { self.now.count ≤ 96 }
+        ensures { Found (map tag_of self.now.rows) self.now.count tag result }
+    {
+        let mut lo = 0;
+        let mut n = self.count;
+        while n > 0 {
+            let step = n - n / 2;
+            lo = advance(lo, step, self.rows[lo + step - 1].tag <= tag);
+            n /= 2;
+        }
+        lo
     }
 
     // Puts in one row more, which stands behind so many others.
