@@ -4,19 +4,16 @@ ghost use Rattle.numbers.specs.Pairs.{pairs, ranges_in};
 ghost use Rattle.numbers.specs.Range.{total};
 ghost use Rattle.numbers.specs.Sums.{stop};
 
-// The lengths of the gaps together, or 2^64 - 1 where the sum passes it. Two sums take turns, so that
-// no addition waits for the one before it.
+// The lengths of the gaps together, or 2^64 - 1 where the sum passes it. A sum of 128 bits is told so in the end,
+// and no addition waits for a test.
 pub(crate) fn sum_bytes(gaps: &[[u64; 2]]) -> u64
     ensures { result ≡ stop (total (ranges_in gaps.now)) }
 {
-    let mut a: u64 = 0;
-    let mut b = 0;
+    let mut sum: u128 = 0;
     for &[_, bytes] in gaps {
-        let sum = a.saturating_add(bytes);
-        a = b;
-        b = sum;
+        sum += u128::from(bytes);
     }
-    a.saturating_add(b)
+    sum.min(u128::from(u64::MAX)) as u64
 }
 
 // The lengths of the pairs of a list together, or 2^64 - 1.

@@ -3,4 +3,4 @@ use Rattle.freemap.proofs.Counting.{Summing}
 use Rattle.freemap.proofs.sum.sum_bytes.Given as goal
 
 abbrev pub invariant-loop-bytes : goal.invariant-loop-bytes
-invariant-loop-bytes l = Summing (ranges_in l.gaps) l.a l.b l.bytes-index
+invariant-loop-bytes l = Summing (ranges_in l.gaps) l.sum l.bytes-index
