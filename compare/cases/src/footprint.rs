@@ -8,7 +8,7 @@ mod smaller;
 use crate::flat::{flat, pairs, words};
 use crate::lent::Lent;
 use crate::random::Random;
-use crate::table::{median, row};
+use crate::table::{grows, median, row};
 use oracle::footprint::{Footprint, check_region};
 use oracle::header::{header_bytes, header_view, kind};
 use oracle::meta::{MetaError, RegionName, RegionState};
@@ -350,56 +350,73 @@ fn ascending(count: usize, random: &mut Random) -> Case {
     }
 }
 
+/// The Rust's time for regions of so many extents, of which so many pairs changed places, and ours.
+fn times(count: usize, calls: usize, swaps: usize, random: &mut Random) -> (f64, f64) {
+    // several regions, so that no predictor learns one of them
+    let regions: Vec<Case> = (0..calls)
+        .map(|_| {
+            let mut case = ascending(count, random);
+            case.swap(swaps, random);
+            case
+        })
+        .collect();
+    let before = vec![0; 2 * (count + 2)];
+    let bytes: Vec<Vec<u8>> = regions
+        .iter()
+        .map(|case| header_bytes(&pairs(&case.extents)))
+        .collect();
+    let decoded: Vec<_> = regions
+        .iter()
+        .zip(&bytes)
+        .map(|(case, bytes)| {
+            let r = &case.record;
+            (r.region_id, entry(r), view(r, bytes), limits(r))
+        })
+        .collect();
+    let rust = median(
+        41,
+        || vec![pairs(&before); calls],
+        |scratch| {
+            for ((id, entry, view, limits), s) in decoded.iter().zip(scratch) {
+                let answer = check_region(*id, entry, view, limits, s);
+                assert!(answer.is_ok());
+            }
+        },
+    );
+    let mine = median(
+        41,
+        || vec![before.clone(); calls],
+        |scratch| {
+            for (case, s) in regions.iter().zip(scratch) {
+                let mut extra = [0; 2];
+                let answer = ours::check_region(&case.record, &case.extents, s, &mut extra);
+                assert_eq!(answer, (0, 2 * (count + 2)));
+            }
+        },
+    );
+    let one = |t: f64| t / calls as f64;
+    (one(rust), one(mine))
+}
+
 pub fn bench(random: &mut Random) {
     for (name, count, calls, swaps) in [
         ("4,084 extents, random order", 4084, 16, 4084),
         ("4,084 extents, ascending", 4084, 16, 0),
         ("60 extents, random order", 60, 256, 60),
     ] {
-        // several regions, so that no predictor learns one of them
-        let regions: Vec<Case> = (0..calls)
-            .map(|_| {
-                let mut case = ascending(count, random);
-                case.swap(swaps, random);
-                case
-            })
-            .collect();
-        let before = vec![0; 2 * (count + 2)];
-        let bytes: Vec<Vec<u8>> = regions
-            .iter()
-            .map(|case| header_bytes(&pairs(&case.extents)))
-            .collect();
-        let decoded: Vec<_> = regions
-            .iter()
-            .zip(&bytes)
-            .map(|(case, bytes)| {
-                let r = &case.record;
-                (r.region_id, entry(r), view(r, bytes), limits(r))
-            })
-            .collect();
-        let rust = median(
-            41,
-            || vec![pairs(&before); calls],
-            |scratch| {
-                for ((id, entry, view, limits), s) in decoded.iter().zip(scratch) {
-                    let answer = check_region(*id, entry, view, limits, s);
-                    assert!(answer.is_ok());
-                }
-            },
-        );
-        let mine = median(
-            41,
-            || vec![before.clone(); calls],
-            |scratch| {
-                for (case, s) in regions.iter().zip(scratch) {
-                    let mut extra = [0; 2];
-                    let answer = ours::check_region(&case.record, &case.extents, s, &mut extra);
-                    assert_eq!(answer, (0, 2 * (count + 2)));
-                }
-            },
-        );
-        let one = |t: f64| t / calls as f64;
-        row(&format!("check_region, {name}"), one(rust), one(mine));
+        let (rust, mine) = times(count, calls, swaps, random);
+        row(&format!("check_region, {name}"), rust, mine);
     }
     runs::bench(random);
+}
+
+pub fn growth(random: &mut Random) {
+    let sizes = [8, 60, 500, 4084];
+    grows("check_region, extents in random order", &sizes, |n| {
+        times(n, 16, n, random).1
+    });
+    grows("check_region, extents in order", &sizes, |n| {
+        times(n, 16, 0, random).1
+    });
+    runs::growth(random);
 }

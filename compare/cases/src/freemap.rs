@@ -9,7 +9,7 @@ mod listed;
 mod sample;
 mod sides;
 
-pub use bench::bench;
+pub use bench::{bench, growth};
 pub use sample::sample;
 
 use crate::random::Random;

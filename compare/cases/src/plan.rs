@@ -21,7 +21,7 @@ mod side;
 mod spoil;
 mod tally;
 
-pub use bench::bench;
+pub use bench::{bench, growth};
 pub use sample::sample;
 
 use crate::random::Random;
@@ -109,6 +109,12 @@ pub fn compare(random: &mut Random) -> Result<usize, String> {
 /// What the listing program writes if the model is its plan.
 pub fn listing(input: &[u8]) -> String {
     listing::answers(&mut *model(), input)
+}
+
+/// The model's answer to each line it is given, one after another.
+pub fn model_lines() -> impl FnMut(&[u8], &mut String) {
+    let (mut side, mut opened) = (model(), false);
+    move |line, text| listing::answer(&mut *side, &mut opened, line, text)
 }
 
 /// Lists of lines that are answered beforehand.

@@ -1,10 +1,13 @@
 //! The listing program as it is built, run on lists of lines, beside the model and the plan in place.
 
 mod draw;
+mod through;
+
+pub use through::through;
 
 use crate::plan::{answered, calls_in, listing, listing_in_place, opened_in_place};
 use crate::random::Random;
-use crate::table::{median, row};
+use crate::table::{grows, median, row};
 use std::env;
 use std::fs::{self, File};
 use std::io::Write;
@@ -163,5 +166,23 @@ pub fn bench(random: &mut Random) {
             ));
             row("    beside the calls of the plan in place", alone, ours);
         }
+    }
+}
+
+/// By the number of lines, the program's start in each time.
+pub fn growth(random: &mut Random) {
+    let sizes = [1000, 10_000, 100_000, 1_000_000, 10_000_000];
+    let kinds: [(&str, &dyn Fn(&mut Random, usize) -> Vec<u8>); 3] = [
+        ("listing, mixed calls at 64 regions", &|r, n| {
+            draw::mixed(r, n, 40)
+        }),
+        ("listing, locates", &draw::located),
+        ("listing, malformed lines", &|_, n| draw::malformed(n)),
+    ];
+    for (what, lines) in kinds {
+        grows(what, &sizes, |n| {
+            let path = stored("listing-growth.in", &lines(random, n));
+            median(if n > 1_000_000 { 1 } else { 7 }, || (), |_| run(&path))
+        });
     }
 }

@@ -12,7 +12,7 @@ mod sample;
 mod sequence;
 mod sides;
 
-pub use bench::bench;
+pub use bench::{bench, growth};
 pub use sample::sample;
 
 use crate::random::Random;

@@ -11,7 +11,7 @@ mod shaped;
 mod shapes;
 mod sides;
 
-pub use bench::bench;
+pub use bench::{bench, growth};
 pub use sample::sample;
 
 use crate::random::Random;

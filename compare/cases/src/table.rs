@@ -29,3 +29,24 @@ pub fn row(operation: &str, rust: f64, ours: f64) {
         ours / rust
     );
 }
+
+pub fn slowest(times: &[f64]) -> f64 {
+    times.iter().copied().fold(0.0, f64::max)
+}
+
+pub fn growth_head() {
+    println!(
+        "{:<44} {:>10} {:>14} {:>10} {:>14}",
+        "ours", "n", "ns", "ns / n", "ns / n log2 n"
+    );
+}
+
+/// A row for each size n: ours alone, by n and by n log2 n.
+pub fn grows(operation: &str, sizes: &[usize], mut time: impl FnMut(usize) -> f64) {
+    for &n in sizes {
+        let time = time(n);
+        let each = time / n as f64;
+        let by_log = each / (n as f64).log2().max(1.0);
+        println!("{operation:<44} {n:>10} {time:>14.1} {each:>10.2} {by_log:>14.3}");
+    }
+}

@@ -4,7 +4,7 @@ use crate::flat::{flat, pairs, spread, words};
 use crate::lent::Lent;
 use crate::random::Random;
 use crate::shrink::shrink;
-use crate::table::{median, row};
+use crate::table::{grows, median, row};
 
 const MAX: u64 = u64::MAX;
 
@@ -169,31 +169,39 @@ pub fn sample(random: &mut Random) -> String {
     text
 }
 
+/// The Rust's time for lists of n extents, and ours.
+fn times(n: usize, parts: u64, random: &mut Random) -> (f64, f64) {
+    let lists: Vec<Vec<u64>> = (0..16).map(|_| spread(n, parts, random)).collect();
+    let of_pairs: Vec<_> = lists.iter().map(|l| pairs(l)).collect();
+    let places = || [vec![0; n], vec![0; n], vec![0; n]];
+    let rust = median(41, places, |to| {
+        for extents in &of_pairs {
+            std::hint::black_box(write(extents, to.each_mut().map(Vec::as_mut_slice)));
+        }
+    });
+    let mine = median(41, places, |to| {
+        for extents in &lists {
+            let [starts, files, lens] = to;
+            assert_eq!(ours::runs(extents, starts, files, lens).0, 0);
+        }
+    });
+    (rust / 16.0, mine / 16.0)
+}
+
 pub fn bench(random: &mut Random) {
-    let n = 4084;
     for (name, parts) in [
         ("none adjacent", 0),
         ("half adjacent", 4),
         ("all adjacent", 8),
     ] {
-        let lists: Vec<Vec<u64>> = (0..16).map(|_| spread(n, parts, random)).collect();
-        let of_pairs: Vec<_> = lists.iter().map(|l| pairs(l)).collect();
-        let places = || [vec![0; n], vec![0; n], vec![0; n]];
-        let rust = median(41, places, |to| {
-            for extents in &of_pairs {
-                std::hint::black_box(write(extents, to.each_mut().map(Vec::as_mut_slice)));
-            }
-        });
-        let mine = median(41, places, |to| {
-            for extents in &lists {
-                let [starts, files, lens] = to;
-                assert_eq!(ours::runs(extents, starts, files, lens).0, 0);
-            }
-        });
-        row(
-            &format!("runs of 4,084 extents, {name}"),
-            rust / 16.0,
-            mine / 16.0,
-        );
+        let (rust, mine) = times(4084, parts, random);
+        row(&format!("runs of 4,084 extents, {name}"), rust, mine);
     }
+}
+
+pub fn growth(random: &mut Random) {
+    let sizes = [8, 60, 500, 4084];
+    grows("runs, half of the extents adjacent", &sizes, |n| {
+        times(n, 4, random).1
+    });
 }

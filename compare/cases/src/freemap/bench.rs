@@ -2,7 +2,7 @@
 
 use crate::flat::{flat, pairs};
 use crate::random::Random;
-use crate::table::{median, row};
+use crate::table::{grows, median, row, slowest};
 use oracle::free::Free;
 use ours::free::Map;
 use std::cell::RefCell;
@@ -39,7 +39,7 @@ fn shape(name: &str, n: usize, random: &mut Random) -> Vec<(u64, u64)> {
 
 /// The ranges are made before. The Rust makes its list of gaps and lengthens it as they come, which is
 /// part of its time; ours has its list lent. No gap but the last is found where ranges touch.
-fn complement(many: &str, name: &str, n: usize, rounds: usize, seed: u64) {
+fn times(name: &str, n: usize, rounds: usize, seed: u64) -> (f64, f64) {
     // each round draws its own ranges, the same for both, so that no predictor learns them
     let drawn = RefCell::new(Random::new(seed));
     let fresh = || shape(name, n, &mut drawn.borrow_mut());
@@ -58,7 +58,20 @@ fn complement(many: &str, name: &str, n: usize, rounds: usize, seed: u64) {
             assert_eq!(refusal, 0);
         },
     );
+    (rust, mine)
+}
+
+fn complement(many: &str, name: &str, n: usize, rounds: usize, seed: u64) {
+    let (rust, mine) = times(name, n, rounds, seed);
     row(&format!("complement of {many} ranges, {name}"), rust, mine);
+}
+
+pub fn growth(random: &mut Random) {
+    let sizes = [1000, 4096, 16_384, 65_536];
+    grows("complement, the slowest of all shapes", &sizes, |n| {
+        let each = SHAPES.map(|name| times(name, n, 21, random.next()).1);
+        slowest(&each)
+    });
 }
 
 /// A map of n gaps of so many bytes, each a byte behind a block's start; the last is longer and starts

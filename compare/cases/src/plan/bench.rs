@@ -9,7 +9,7 @@ use super::sequence::{Told, name, named};
 use super::side::{Maker, Side};
 use crate::flat::flat;
 use crate::random::Random;
-use crate::table::median;
+use crate::table::{grows, median};
 use oracle::free::Free;
 use oracle::map::Map;
 use std::cell::RefCell;
@@ -335,4 +335,52 @@ pub fn bench(random: &mut Random) {
             median(11, make, |side| assert!(side.open(&opening).accepted()))
         });
     }
+}
+
+/// By the number of regions: the calls of ours one after another, and open.
+pub fn growth(random: &mut Random) {
+    let sizes = [1, 2, 4, 8, 16, 32, REGIONS];
+    let id = 1000;
+    let create = Call::Create {
+        id,
+        tag: 1000,
+        name: name(named(1000, 16)),
+    };
+    let pairs = vec![[create.clone(), Call::Drop { id }]; 50].concat();
+    let grows_all = vec![Call::Grow { id }; EXTENTS];
+    let grown = [vec![create], grows_all, vec![Call::Drop { id }]].concat();
+    let full = |n: usize| opening(&vec![EXTENTS; n]);
+    let others = |n: usize| opening(&vec![EXTENTS; n - 1]);
+    grows(
+        "create and drop, the last of so many regions",
+        &sizes,
+        |n| each(&ours, &others(n), &pairs),
+    );
+    grows("create, 60 grows, drop, the last of them", &sizes, |n| {
+        each(&ours, &others(n), &grown)
+    });
+    grows("publish in so many regions", &sizes, |n| {
+        let len = |k: u64| k % (EXTENTS as u64 + 1) * BLOCK;
+        let calls: Vec<_> = (0..1000)
+            .map(|k| Call::Publish {
+                id: n as u64 / 2,
+                len: len(k),
+            })
+            .collect();
+        each(&ours, &full(n), &calls)
+    });
+    grows("locate in so many regions", &sizes, |n| {
+        let calls: Vec<_> = (0..1000)
+            .map(|_| Call::Locate {
+                id: random.below(n as u64),
+                pos: random.below(EXTENTS as u64 * BLOCK),
+                n: 1,
+            })
+            .collect();
+        each(&ours, &full(n), &calls)
+    });
+    grows("open of so many records of 60 extents", &sizes, |n| {
+        let opening = full(n);
+        median(11, ours, |side| assert!(side.open(&opening).accepted()))
+    });
 }

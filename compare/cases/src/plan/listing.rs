@@ -124,7 +124,30 @@ pub fn open_first(side: &mut dyn Side, input: &[u8]) -> bool {
     }
 }
 
-/// What the listing program writes if the side is its plan.
+/// What the listing program writes for a line if the side is its plan, and whether that is open.
+pub fn answer(side: &mut dyn Side, opened: &mut bool, line: &[u8], text: &mut String) {
+    let answer = match parsed(line) {
+        Some(Line::Open(limits)) if !*opened => {
+            let answer = side.open(&Opening::empty(limits));
+            *opened = answer.accepted();
+            answer
+        }
+        Some(Line::Call(call)) if *opened => side.ask(&call, Places::ALL),
+        _ => Answer::Refused(25),
+    };
+    let at = match answer {
+        Answer::At(at) => at,
+        _ => 0,
+    };
+    let (held, free) = match *opened {
+        true => (side.held(), side.free()),
+        false => (0, 0),
+    };
+    let refusal = answer.refusal();
+    *text += &format!("refusal={refusal} at={at} held={held} free={free}\n");
+}
+
+/// And for all lines of an input.
 pub fn answers(side: &mut dyn Side, input: &[u8]) -> String {
     let mut lines: Vec<&[u8]> = input.split(|b| *b == b'\n').collect();
     // a last line may lack its line end
@@ -133,25 +156,7 @@ pub fn answers(side: &mut dyn Side, input: &[u8]) -> String {
     }
     let (mut opened, mut text) = (false, String::new());
     for line in lines {
-        let answer = match parsed(line) {
-            Some(Line::Open(limits)) if !opened => {
-                let answer = side.open(&Opening::empty(limits));
-                opened = answer.accepted();
-                answer
-            }
-            Some(Line::Call(call)) if opened => side.ask(&call, Places::ALL),
-            _ => Answer::Refused(25),
-        };
-        let at = match answer {
-            Answer::At(at) => at,
-            _ => 0,
-        };
-        let (held, free) = match opened {
-            true => (side.held(), side.free()),
-            false => (0, 0),
-        };
-        let refusal = answer.refusal();
-        text += &format!("refusal={refusal} at={at} held={held} free={free}\n");
+        answer(side, &mut opened, line, &mut text);
     }
     text
 }

@@ -163,6 +163,27 @@ impl Shadow {
         self.line(format!("call=locate id={i} pos={pos} n=1"));
     }
 
+    /// One turn of `mixed`.
+    fn turn(&mut self, random: &mut Random, anew: u64) {
+        let i = random.below(64) as usize;
+        let turn = random.below(400);
+        if turn < anew {
+            self.line(format!("call=drop id={i}"));
+            self.create(i);
+            self.grow(i);
+            self.publish(i, 16);
+        } else if turn < 3 * anew && self.extents[i] < 60 {
+            self.grow(i);
+        } else if turn < 150 {
+            let blocks = random.below(self.capacity[i] + 1);
+            self.publish(i, blocks);
+        } else if turn < 180 {
+            self.line(format!("call=cap tag={} max=none", i % 90));
+        } else {
+            self.locate(random, i);
+        }
+    }
+
     /// 64 regions of so many extents, all published.
     fn opened(extents: u64) -> Self {
         let mut shadow = Self {
@@ -187,28 +208,34 @@ impl Shadow {
     }
 }
 
+/// The lines of `mixed`, so many at a time.
+pub struct Mixed {
+    shadow: Shadow,
+    anew: u64,
+}
+
+impl Mixed {
+    pub fn opened(anew: u64) -> Self {
+        let shadow = Shadow::opened(12);
+        Self { shadow, anew }
+    }
+
+    /// The next ones, at least so many.
+    pub fn lines(&mut self, random: &mut Random, lines: usize) -> Vec<u8> {
+        let most = self.shadow.lines + lines;
+        while self.shadow.lines < most {
+            self.shadow.turn(random, self.anew);
+        }
+        std::mem::take(&mut self.shadow.text)
+    }
+}
+
 /// Calls that are all accepted. Of 400 lines so many begin to drop a region and make it anew, and twice as many
 /// grow one; the others locate, publish and cap.
 pub fn mixed(random: &mut Random, lines: usize, anew: u64) -> Vec<u8> {
     let mut shadow = Shadow::opened(12);
     while shadow.lines + 4 < lines {
-        let i = random.below(64) as usize;
-        let turn = random.below(400);
-        if turn < anew {
-            shadow.line(format!("call=drop id={i}"));
-            shadow.create(i);
-            shadow.grow(i);
-            shadow.publish(i, 16);
-        } else if turn < 3 * anew && shadow.extents[i] < 60 {
-            shadow.grow(i);
-        } else if turn < 150 {
-            let blocks = random.below(shadow.capacity[i] + 1);
-            shadow.publish(i, blocks);
-        } else if turn < 180 {
-            shadow.line(format!("call=cap tag={} max=none", i % 90));
-        } else {
-            shadow.locate(random, i);
-        }
+        shadow.turn(random, anew);
     }
     while shadow.lines < lines {
         shadow.locate(random, 0);

@@ -3,7 +3,7 @@
 use super::sides::MOST;
 use crate::flat::{flat, pairs, spread};
 use crate::random::Random;
-use crate::table::{median, row};
+use crate::table::{grows, median, row};
 use oracle::map::Map;
 use ours::map::{Map as Numbers, Run, locate_among_each};
 use std::hint::black_box;
@@ -59,7 +59,7 @@ pub fn bench(random: &mut Random) {
 }
 
 /// One byte at each of so many random positions that no predictor learns them.
-fn locate(name: &str, runs: usize, random: &mut Random) {
+fn locating(runs: usize, random: &mut Random) -> [f64; 3] {
     let n = 1 << 20;
     let extents = spread(runs, 0, random);
     let len = capacity(&extents);
@@ -99,9 +99,13 @@ fn locate(name: &str, runs: usize, random: &mut Random) {
         },
     );
     assert_eq!(by_rust, by_records);
-    let one = |t: f64| t / n as f64;
-    row(&format!("locate in {name}"), one(rust), one(mine));
-    row("  among them as records", one(rust), one(among));
+    [rust, mine, among].map(|t| t / n as f64)
+}
+
+fn locate(name: &str, runs: usize, random: &mut Random) {
+    let [rust, mine, among] = locating(runs, random);
+    row(&format!("locate in {name}"), rust, mine);
+    row("  among them as records", rust, among);
 }
 
 /// The map's runs.
@@ -143,7 +147,7 @@ fn extend(name: &str, extents: &[u64]) {
 }
 
 /// No two of the extents are adjacent.
-fn from_extents(name: &str, n: usize, calls: usize, random: &mut Random) {
+fn building(n: usize, calls: usize, random: &mut Random) -> (f64, f64) {
     // several lists, so that no predictor learns one of them
     let lists: Vec<Vec<u64>> = (0..calls).map(|_| spread(n, 0, random)).collect();
     let of_pairs: Vec<_> = lists.iter().map(|l| pairs(l)).collect();
@@ -170,11 +174,25 @@ fn from_extents(name: &str, n: usize, calls: usize, random: &mut Random) {
         },
     );
     let one = |t: f64| t / calls as f64;
-    row(
-        &format!("from_extents of {name} extents"),
-        one(rust),
-        one(mine),
-    );
+    (one(rust), one(mine))
+}
+
+fn from_extents(name: &str, n: usize, calls: usize, random: &mut Random) {
+    let (rust, mine) = building(n, calls, random);
+    row(&format!("from_extents of {name} extents"), rust, mine);
+}
+
+pub fn growth(random: &mut Random) {
+    let sizes = [1, 8, 60, 500, MOST];
+    grows("locate among so many runs", &sizes, |n| {
+        locating(n, random)[1]
+    });
+    grows("  among them as records", &sizes, |n| {
+        locating(n, random)[2]
+    });
+    grows("from_extents of so many extents", &sizes, |n| {
+        building(n, 16, random).1
+    });
 }
 
 fn publish(random: &mut Random) {

@@ -5,7 +5,7 @@ use super::draw::Name;
 use super::shapes::{SHAPES, shape, shuffle};
 use super::sides::{MOST_RANGES, MOST_RECORDS, records};
 use crate::random::Random;
-use crate::table::{median, row};
+use crate::table::{grows, median, row, slowest};
 use oracle::settle::Regions;
 use ours::settle::Records;
 
@@ -62,7 +62,7 @@ fn lent(kind: &Kind) -> Records<'_> {
 }
 
 /// The records are made before, and so are ours' marks and scratch; the Rust makes its own.
-fn time(operation: &str, lists: &Lists) {
+fn times(lists: &Lists) -> (f64, f64) {
     let rounds = 21;
     let [usable, unavailable] = [&lists.usable, &lists.unavailable].map(records);
     let regions = Regions::new(&usable, &unavailable);
@@ -79,6 +79,11 @@ fn time(operation: &str, lists: &Lists) {
         },
     );
     assert_eq!(marks, regions.settle().marks());
+    (rust, mine)
+}
+
+fn time(operation: &str, lists: &Lists) {
+    let (rust, mine) = times(lists);
     row(operation, rust, mine);
 }
 
@@ -106,4 +111,18 @@ pub fn bench(random: &mut Random) {
         let lists = lists(64, 0, ranges, &mut rising, typical, random);
         time(&format!("settle 64 records of 62, {name}"), &lists);
     }
+}
+
+/// As many ranges a record as with the most of both.
+pub fn growth(random: &mut Random) {
+    let sizes = [1024, 4096, 16_384, MOST_RANGES];
+    grows("settle, the slowest of all shapes", &sizes, |n| {
+        let most = n * MOST_RECORDS / MOST_RANGES;
+        let mut rising: Vec<u64> = (1..=2 * most as u64).collect();
+        let each = SHAPES.map(|name| {
+            let ranges = shape(name, n, random);
+            times(&lists(most, most, ranges, &mut rising, typical, random)).1
+        });
+        slowest(&each)
+    });
 }
