@@ -46,6 +46,15 @@ pub fn compare(random: &mut Random) -> Result<usize, String> {
         check(random.sized(), random.sized())?;
         cases += 4;
     }
+    for _ in 0..2000 {
+        let n = random.below(40) as usize;
+        let numbers: Vec<u64> = (0..n).map(|_| random.sized()).collect();
+        let found = ours::align_up_each(&numbers);
+        if found != highest(&numbers) {
+            return Err(format!("align_up_each({numbers:?}) is {found}"));
+        }
+        cases += 1;
+    }
     Ok(cases)
 }
 
@@ -83,39 +92,47 @@ pub fn sample(random: &mut Random) -> String {
     text
 }
 
+/// The greatest place of pairs of a value and an align, by the Rust.
+fn highest(numbers: &[u64]) -> u64 {
+    let places = numbers
+        .chunks_exact(2)
+        .map(|p| oracle::align::align_up(p[0], p[1]).unwrap_or(0));
+    places.fold(0, u64::max)
+}
+
+/// Of pairs one after another, in a loop on each side; and one call at a time, over the border of the languages.
 pub fn bench(random: &mut Random) {
     let n = 1 << 16;
     for (name, any_align) in [
         ("align_up, a power of two", false),
         ("align_up, any align", true),
     ] {
-        let inputs: Vec<(u64, u64)> = (0..n)
-            .map(|_| {
-                (
-                    random.sized(),
-                    if any_align {
-                        random.sized()
-                    } else {
-                        1 << random.below(64)
-                    },
-                )
+        let inputs: Vec<u64> = (0..n)
+            .flat_map(|_| {
+                let align = match any_align {
+                    true => random.sized(),
+                    false => 1 << random.below(64),
+                };
+                [random.sized(), align]
             })
             .collect();
-        let run = |f: fn(u64, u64) -> Option<u64>| {
-            median(
-                41,
-                || (),
-                |()| {
-                    for &(value, align) in &inputs {
-                        black_box(f(black_box(value), black_box(align)));
-                    }
-                },
-            ) / n as f64
+        let due = highest(&inputs);
+        let each = |f: fn(&[u64]) -> u64| {
+            median(41, || (), |()| assert_eq!(f(black_box(&inputs)), due)) / n as f64
+        };
+        row(name, each(highest), each(ours::align_up_each));
+        let one = |f: fn(u64, u64) -> Option<u64>| {
+            let all = |_: &mut ()| {
+                for pair in inputs.chunks_exact(2) {
+                    black_box(f(black_box(pair[0]), black_box(pair[1])));
+                }
+            };
+            median(41, || (), all) / n as f64
         };
         row(
-            name,
-            run(|v, a| oracle::align::align_up(v, a)),
-            run(ours::align_up),
+            "  a call at a time",
+            one(oracle::align::align_up),
+            one(ours::align_up),
         );
     }
 }

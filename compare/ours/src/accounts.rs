@@ -145,6 +145,13 @@ unsafe extern "C" {
         extra: *const u64,
         extra_len: usize,
     ) -> FlatAnswer;
+    fn fundravai_accounts_allows_each(
+        a: Accounts,
+        tags: *const u32,
+        tags_len: usize,
+        extra: *const u64,
+        extra_len: usize,
+    ) -> u64;
 }
 
 pub fn set_cap(a: Accounts, tag: u32, cap: Option<u64>) -> Posted {
@@ -253,4 +260,11 @@ pub fn fits_each(a: Accounts, tags: &[u32], extra: &[u64]) -> (u64, u64) {
         fundravai_accounts_fits_each(a, tags.as_ptr(), tags.len(), extra.as_ptr(), extra.len())
     };
     (r.refusal, r.value)
+}
+
+/// The same questions in accounts that stay where they are, and get no row: how many fit.
+pub fn allows_each(a: Accounts, tags: &[u32], extra: &[u64]) -> u64 {
+    unsafe {
+        fundravai_accounts_allows_each(a, tags.as_ptr(), tags.len(), extra.as_ptr(), extra.len())
+    }
 }

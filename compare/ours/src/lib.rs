@@ -22,6 +22,7 @@ struct FlatAnswer {
 
 unsafe extern "C" {
     fn fundravai_align_up(value: u64, align: u64) -> FlatOption;
+    fn fundravai_align_up_each(numbers: *const u64, len: usize) -> u64;
     fn fundravai_sort_pairs(s: *mut u64, len: usize) -> u64;
     fn fundravai_max_extents(log2_block: u8) -> usize;
     fn fundravai_fill_footprint(
@@ -97,6 +98,11 @@ pub fn align_up(value: u64, align: u64) -> Option<u64> {
     let r = unsafe { fundravai_align_up(value, align) };
     assert!(r.some <= 1, "align_up answers some = {}", r.some);
     (r.some == 1).then_some(r.value)
+}
+
+/// The greatest place of these pairs of a value and an align, 0 if there is none.
+pub fn align_up_each(numbers: &[u64]) -> u64 {
+    unsafe { fundravai_align_up_each(numbers.as_ptr(), numbers.len()) }
 }
 
 /// Answers the refusal, 0 if accepted.

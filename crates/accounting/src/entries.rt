@@ -23,15 +23,21 @@ pub(crate) fn extent_len_or(data_size: u64, block: u64, other: u64) -> u64
     extent_len(data_size, block).unwrap_or(other)
 }
 
-// The accounts after each usage in turn, of n places that may have one.
+// The accounts after each usage in turn, of n places that may have one. Where a row was found last is noted by a hash of its
+// tag: most usages need no search then.
 pub(crate) fn count_all<F: Fn(usize) -> Option<Usage>>(n: usize, usage_at: F) -> Posted
     requires { (i : ℕ) → i < n → F.pre usage_at i }
     ensures { (us : ℕ → Option Usage) → ((i : ℕ) (u : Option Usage) → i < n → F.post usage_at i u → u ≡ us i) → Counts false (gathered us 0 n) result }
 {
     let mut accounts = Accounting::empty();
+    let mut places = [0u8; 256];
     for i in 0..n {
         let Some(usage) = usage_at(i) else { continue };
-        let counted = accounts.post(
+        let slot = (usage.tag.wrapping_mul(0x9e37_79b1) >> 24) as usize;
+        let found = accounts.find_near(usage.tag, places[slot] as usize);
+        places[slot] = found.unwrap_or(0).min(255) as u8;
+        let counted = accounts.post_found(
+            found,
             usage.tag,
             |row| row.add_usage(usage.logical, usage.physical),
         );

@@ -30,6 +30,16 @@ impl Accounting {
         Ok(at - 1)
     }
 
+    // The same, looked for at a guess first.
+    pub(crate) fn find_near(&self, tag: u32, guess: usize) -> Result<usize, usize>
+        ensures { Sought self.now tag result }
+    {
+        if self.count <= MOST && guess < self.count && self.rows[guess].tag == tag {
+            return Ok(guess);
+        }
+        self.find(tag)
+    }
+
     // How many rows have this tag or a lower one, by halving. The library's search would guess a branch at each step.
     fn up_to(&self, tag: u32) -> usize
         requires { self.now.count ≤ 96 }
@@ -72,7 +82,21 @@ impl Accounting {
         requires { F.IsAlwaysCallable rule }
         ensures { (f : TagSpace → TagSpace) → KeepsTag f → ((r s : TagSpace) → F.post rule r s → s ≡ f r) → Posts self.old (on_row tag f) (leaving result self.new) }
     {
-        match self.find(tag) {
+        let found = self.find(tag);
+        self.post_found(found, tag, rule)
+    }
+
+    // The same where the tag's row was looked for.
+    pub(crate) fn post_found<F: FnOnce(TagSpace) -> TagSpace>(
+        &mut self,
+        found: Result<usize, usize>,
+        tag: u32,
+        rule: F,
+    ) -> Result<(), Refusal>
+        requires { F.IsAlwaysCallable rule × Sought self.old tag found }
+        ensures { (f : TagSpace → TagSpace) → KeepsTag f → ((r s : TagSpace) → F.post rule r s → s ≡ f r) → Posts self.old (on_row tag f) (leaving result self.new) }
+    {
+        match found {
             Ok(at) => {
                 self.rows[at] = rule(self.rows[at]);
                 Ok(())

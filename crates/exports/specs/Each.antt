@@ -1,7 +1,9 @@
 -- Calls one after another, each with the promise of the single call: what the loops for the benchmark do.
-use Rattle.std.specs.Prelude.{ℕ, ◌+◌, Bool, true, false, cond, List, [], ◌∷◌, ◌≡◌, ltb, length, get_or, drop, set, Result, Ok, Err, is_ok}
+use Rattle.std.specs.Prelude.{ℕ, ◌+◌, max, Bool, true, false, cond, List, [], ◌∷◌, ◌≡◌, ltb, length, get_or, drop, set, Result, Ok, Err, is_ok}
+use Rattle.std.specs.Option.{unwrap_or}
+use Rattle.align.specs.Align.{align_up}
 use Rattle.accounting.specs.declared.entries.Usage.{Usage}
-use Rattle.accounting.specs.Table.{Posts, Asks, on_row}
+use Rattle.accounting.specs.Table.{Posts, Asks, Allows, on_row}
 use Rattle.accounting.specs.declared.Accounting.{Accounting}
 use Rattle.accounting.specs.declared.Asked.{Asked}
 use Rattle.accounting.specs.declared.Posted.{Posted}
@@ -20,6 +22,12 @@ use Rattle.regionmap.specs.declared.RegionMap.{RegionMap}
 use Rattle.runs.specs.declared.Run.{Run}
 use Rattle.tagspace.specs.Row.{add_usage, remove_usage}
 use Rattle.tagspace.specs.declared.TagSpace.{TagSpace}
+
+-- ---- places
+
+-- One place of a value and its align; where it has none the greatest so far stays.
+abbrev pub AlignUp : Range → ℕ → ℕ → Type 0
+AlignUp r s t = t ≡ max s (unwrap_or (align_up r.offset r.len) 0)
 
 -- ---- the region map
 
@@ -143,3 +151,14 @@ pub record Ask (q : Question) (s t : Asking) : Type 0 where
 pub record AsksEach (bad : Bool) (qs : List Question) (a : Accounting) (r : FlatAnswer) : Type 0 where
   pub refused : bad ≡ true → r ≡ record { refusal = 1; value = 0 }
   pub each : bad ≡ false → (t : Asking) × Chain Ask qs (asking (unasked a) 0) t × (r ≡ record { refusal = refusal_in t.asked.answer; value = t.fit })
+
+-- One question of accounts that stay as they are, by how many were answered yes.
+pub record Allow (a : Accounting) (q : Question) (s t : ℕ) : Type 0 where
+  pub answer : Result Bool Refusal
+  pub promise : Allows a q.tag q.extra answer
+  pub count : t ≡ s + cond (value_or false (told answer)) 1 0
+
+-- 0 where the lists differ in length, else how many questions are answered yes.
+pub record AllowsEach (bad : Bool) (qs : List Question) (a : Accounting) (r : ℕ) : Type 0 where
+  pub refused : bad ≡ true → r ≡ 0
+  pub each : bad ≡ false → Chain (Allow a) qs 0 r

@@ -4,7 +4,7 @@ ghost use Rattle.accounting.specs.Entries.{Counts, no_tags, usages, ready_usages
 ghost use Rattle.tagspace.specs.Extent.{extent_len};
 ghost use Rattle.tagspace.specs.Row.{blank, add_usage, remove_usage, reserve, unreserve, set_cap, fits};
 ghost use Rattle.accounting.specs.Table.{Valid, Posts, Asks, accounts_of, table_of, on_row, reserving, unreserving, row_of};
-ghost use Rattle.exports.specs.Each.{PostsEach, CountRow, questions, AsksEach};
+ghost use Rattle.exports.specs.Each.{AllowsEach, AsksEach, CountRow, PostsEach, questions};
 ghost use Rattle.flat.specs.Chain.{Chain};
 ghost use Rattle.numbers.specs.Pairs.{pairs};
 ghost use Rattle.exports.specs.Flat.{flat_of, Flattened};
@@ -279,7 +279,7 @@ pub extern "C" fn fundravai_row_uncount_usage(flat: &mut FlatRow, logical: u64, 
     *flat = row.into();
 }
 
-// The next five are for the benchmark, where putting the accounts into flat numbers and back would cost
+// The next six are for the benchmark, where putting the accounts into flat numbers and back would cost
 // more than a posting.
 
 // Whether three lists of usages differ in length.
@@ -386,6 +386,27 @@ pub extern "C" fn fundravai_accounts_fits_each(
         refusal: number_in(asked.answer),
         value: fit,
     }
+}
+
+// The same questions in accounts that stay where they are, which make no row; answers how many fit.
+#[tactic(auto, using(accounting::proofs::Counting::differ_second))]
+#[unsafe(no_mangle)]
+pub extern "C" fn fundravai_accounts_allows_each(
+    flat: FlatAccounting,
+    tags: &[u32],
+    extra: &[u64],
+) -> u64
+    ensures { AllowsEach (differ tags.now extra.now extra.now) (questions tags.now extra.now) (accounts_from flat) result }
+{
+    if tags.len() != extra.len() {
+        return 0;
+    }
+    let accounts = Accounting::from(flat);
+    let mut fit = 0u64;
+    for i in 0..tags.len() {
+        fit += accounts.allows(tags[i], extra[i]).unwrap_or(false) as u64;
+    }
+    fit
 }
 
 // Counts usages, each its data bytes and those that it occupies, on a row that is lent.

@@ -11,6 +11,9 @@ mod settlement;
 ghost use Rattle.std.specs.Prelude.{◌≡◌};
 ghost use Rattle.align.specs.Align.{align_up};
 ghost use Rattle.sort.specs.Sort.{Sorted};
+ghost use Rattle.exports.specs.Each.{AlignUp};
+ghost use Rattle.flat.specs.Chain.{Chain};
+ghost use Rattle.numbers.specs.Pairs.{pairs};
 ghost use Rattle.numbers.specs.Range.{range};
 ghost use Rattle.numbers.specs.Refusals.{answer};
 ghost use Rattle.footprint.specs.Footprint.{max_extents, answer_of, Filled};
@@ -73,6 +76,20 @@ pub extern "C" fn fundravai_align_up(value: u64, align: u64) -> FlatOption
     ensures { result ≡ flat_of (align_up value align) }
 {
     align::align_up(value, align).into()
+}
+
+// For the benchmark: the greatest of the places that pairs of a value and an align have, 0 where none has one.
+#[tactic(auto, using(crate::proofs::Chaining::chunk_next, crate::proofs::Chaining::chunks_end, numbers::proofs::Chunks::chunk_pairs))]
+#[unsafe(no_mangle)]
+pub extern "C" fn fundravai_align_up_each(numbers: &[u64]) -> u64
+    ensures { Chain AlignUp (pairs numbers.now) 0 result }
+{
+    let mut highest = 0u64;
+    let (pairs, _) = numbers.as_chunks::<2>();
+    for &[value, align] in pairs {
+        highest = highest.max(align::align_up(value, align).unwrap_or(0));
+    }
+    highest
 }
 
 #[tactic(auto, using(crate::proofs::Told::told_answer))]

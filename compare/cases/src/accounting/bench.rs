@@ -138,8 +138,17 @@ fn fits(start: &[(u32, u64, u64)], drawn: &Drawn) {
             assert_eq!(found, (0, within));
         },
     );
+    let lent = median(
+        21,
+        || (),
+        |()| {
+            let found = accounts::allows_each(begun, &drawn.tags, &drawn.logical);
+            assert_eq!(found, within);
+        },
+    );
     let one = |t: f64| t / questions.len() as f64;
     row("fits among 96 tags", one(rust), one(mine));
+    row("  in accounts that are lent", one(rust), one(lent));
 }
 
 fn from_usage(name: &str, n: usize, pool: &[u32], random: &mut Random) {

@@ -72,12 +72,13 @@ pub fn compare(random: &mut Random) -> Result<usize, String> {
             row.capped = true;
             row.cap = random.number();
         }
-        let mut asked = (0, 0);
+        let (mut asked, mut allowed) = ((0, 0), 0);
         let mut after = capped;
         for (&tag, &extra) in some.iter().zip(&extra) {
             let r = accounts::fits(after, tag, extra);
             after = r.accounts;
             asked = (r.refusal, asked.1 + u64::from(r.fits));
+            allowed += u64::from(accounts::fits(capped, tag, extra).fits);
         }
         if n > 0 {
             let short = Usages {
@@ -91,9 +92,16 @@ pub fn compare(random: &mut Random) -> Result<usize, String> {
             if accounts::post_each(capped, false, short) != refused
                 || accounts::count_each(capped, false, short) != refused
                 || accounts::fits_each(capped, &some, &extra[1..]) != (1, 0)
+                || accounts::allows_each(capped, &some, &extra[1..]) != 0
             {
                 return Err(format!("lists of {n} and {} are taken", n - 1));
             }
+        }
+        let lent = accounts::allows_each(capped, &some, &extra);
+        if lent != allowed {
+            return Err(format!(
+                "allows_each of {some:?} gives {lent}, the single questions {allowed}"
+            ));
         }
         let found = accounts::fits_each(capped, &some, &extra);
         if found != asked {
@@ -102,5 +110,5 @@ pub fn compare(random: &mut Random) -> Result<usize, String> {
             ));
         }
     }
-    Ok(7 * rounds)
+    Ok(8 * rounds)
 }
