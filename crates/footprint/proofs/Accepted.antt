@@ -46,7 +46,12 @@ accepted lim id e h xs places z =
             record { table = omega (arith, t.table, a.from); file = omega (arith, t.file, a.upto); from = a.from; upto = a.upto },
             (
               record { table = omega (arith, t.table, b.from); file = omega (arith, t.file, b.upto); from = b.from; upto = b.upto },
-              all_imp (Inside lim e) (Placed lim e) (λ r i. record { table = omega (arith, t.table, i.from); file = omega (arith, t.file, i.upto); from = i.from; upto = i.upto }) (committed e xs) p.inside,
+              all_imp (Inside lim e) (Placed lim e) (λ r i. record {
+                table = omega (arith, t.table, i.from);
+                file = omega (arith, t.file, i.upto);
+                from = i.from;
+                upto = i.upto;
+              }) (committed e xs) p.inside,
             ),
           );
       lengths = s ∙ omega (arith, p.capacity);

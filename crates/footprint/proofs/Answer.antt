@@ -48,8 +48,34 @@ module _ (lim : Limits) (id : ℕ) (e : Entry) (h : Header) (xs : List ℕ) (pla
   pub not_last : before_last lim id e h xs places < 13
   unfolding before_last
   not_last =
-      first_low 13 before (omega arith)
-      (refuse_low 13 1 _ (omega arith), (refuse_low 13 2 _ (omega arith), (refuse_low 13 4 _ (omega arith), (refuse_low 13 5 _ (omega arith), (refuse_low 13 6 _ (omega arith), (refuse_low 13 7 _ (omega arith), (refuse_low 13 8 _ (omega arith), (refuse_low 13 9 _ (omega arith), (refuse_low 13 10 _ (omega arith), (each_low (outside lim e) 0 (committed e xs), (refuse_low 13 12 _ (omega arith), tt)))))))))))
+      first_low 13 before (omega arith) (
+        refuse_low 13 1 _ (omega arith),
+        (
+          refuse_low 13 2 _ (omega arith),
+          (
+            refuse_low 13 4 _ (omega arith),
+            (
+              refuse_low 13 5 _ (omega arith),
+              (
+                refuse_low 13 6 _ (omega arith),
+                (
+                  refuse_low 13 7 _ (omega arith),
+                  (
+                    refuse_low 13 8 _ (omega arith),
+                    (
+                      refuse_low 13 9 _ (omega arith),
+                      (
+                        refuse_low 13 10 _ (omega arith),
+                        (each_low (outside lim e) 0 (committed e xs), (refuse_low 13 12 _ (omega arith), tt)),
+                      ),
+                    ),
+                  ),
+                ),
+              ),
+            ),
+          ),
+        ),
+      )
 
   pub refusal_most : refusal_of lim id e h xs places ≤ 13
   refusal_most =
@@ -152,7 +178,8 @@ module _ (lim : Limits) (id : ℕ) (e : Entry) (h : Header) (xs s : List ℕ) wh
       pub usable : h.extent_count ≤ e.extent_count → Filled lim id e h xs s (ys ++ drop (2 * e.extent_count + 4 - 0) s) (answer_of (Ok None))
       usable l = record { answer = sym (answer_value _ _ none ∙ ap accepted (no_extra passed l)); slots = kept ∙ simp none }
 
-      pub ahead : e.extent_count < h.extent_count → Filled lim id e h xs s (ys ++ drop (2 * e.extent_count + 4 - 0) s) (answer_of (Ok (Some (record { offset = get_or xs (2 * e.extent_count) 0; len = get_or xs (2 * e.extent_count + 1) 0 }))))
+      pub ahead : e.extent_count < h.extent_count → Filled lim id e h xs s (ys ++ drop (2 * e.extent_count + 4 - 0) s)
+          (answer_of (Ok (Some (record { offset = get_or xs (2 * e.extent_count) 0; len = get_or xs (2 * e.extent_count + 1) 0 }))))
       ahead l = record { answer = sym (answer_value _ _ none ∙ ap accepted (one_extra passed l)); slots = kept ∙ simp none }
 
 -- ---- the part that is handed back

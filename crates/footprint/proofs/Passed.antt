@@ -104,7 +104,8 @@ entry_pass lim e xs p =
       a = block_pass (block_of lim) e e.header_a a.1;
       b = block_pass (block_of lim) e e.header_b b.1;
       size = ltb-false _ _ d.1;
-      some = all_imp (λ (x : Range). eqb x.len 0 ≡ false) (λ (x : Range). 0 < x.len) (λ x f. let d = eqb-false x.len 0 f in omega arith) (committed e xs) (any_false (λ (x : Range). eqb x.len 0) (committed e xs) c.1);
+      some = all_imp (λ (x : Range). eqb x.len 0 ≡ false) (λ (x : Range). 0 < x.len) (λ x f. let d = eqb-false x.len 0 f in omega arith)
+          (committed e xs) (any_false (λ (x : Range). eqb x.len 0) (committed e xs) c.1);
     }
 
 -- the header lists the committed extents

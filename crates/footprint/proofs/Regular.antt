@@ -58,7 +58,11 @@ overlaps_disjoint rs f = at_disjoint rs (overlaps_false rs f)
 pub disjoint_overlaps : (rs : List Range) → Disjoint rs → overlaps rs ≡ false
 unfolding overlaps
 disjoint_overlaps [] d = refl
-disjoint_overlaps (r ∷ rs) d = simp (of_none (meets r) rs (all_imp (λ (q : Range). Meet r q → ⊥) (λ (q : Range). meets r q ≡ false) (λ q n. never (meets r q) (λ t. n (meets_true r q t))) rs d.0), disjoint_overlaps rs d.1)
+disjoint_overlaps (r ∷ rs) d = simp (
+  of_none (meets r) rs (all_imp (λ (q : Range). Meet r q → ⊥) (λ (q : Range). meets r q ≡ false)
+      (λ q n. never (meets r q) (λ t. n (meets_true r q t))) rs d.0),
+  disjoint_overlaps rs d.1,
+)
 
 -- ---- from the refusal
 
@@ -149,7 +153,8 @@ module _ (lim : Limits) (e : Entry) (xs : List ℕ) (small : lim.file_len ≤ to
         block_fine _ _ _ t.b,
         not_near (block_of lim) e.header_a e.header_b k (omega (arith, small, t.file, t.a.upto)) (omega (arith, small, t.file, t.b.upto)) d.0.0,
         le-ltb _ _ t.size,
-        of_none (λ (x : Range). eqb x.len 0) (committed e xs) (all_imp (λ (x : Range). 0 < x.len) (λ (x : Range). eqb x.len 0 ≡ false) (λ x s. ne_eqb x.len 0 (λ z. omega arith)) (committed e xs) t.some),
+        of_none (λ (x : Range). eqb x.len 0) (committed e xs) (all_imp (λ (x : Range). 0 < x.len) (λ (x : Range). eqb x.len 0 ≡ false)
+            (λ x s. ne_eqb x.len 0 (λ z. omega arith)) (committed e xs) t.some),
       )
 
   inside_fine : Entries lim e xs → (x : Range) → Inside lim e x → outside lim e x ≡ false
@@ -190,7 +195,8 @@ module _ (lim : Limits) (id : ℕ) (e : Entry) (h : Header) (xs : List ℕ) (pla
                       (
                         pass_none 10 _ (ap not (eq-eqb _ _ g.multiple)),
                         (
-                          each_none (outside lim e) 0 (committed e xs) (all_imp (Inside lim e) (λ (x : Range). outside lim e x ≡ false) (inside_fine lim e xs small r.entry) (committed e xs) r.inside) (omega (arith, r.capacity)),
+                          each_none (outside lim e) 0 (committed e xs) (all_imp (Inside lim e) (λ (x : Range). outside lim e x ≡ false)
+                              (inside_fine lim e xs small r.entry) (committed e xs) r.inside) (omega (arith, r.capacity)),
                           (
                             pass_none 12 _ (ap not (eq-eqb _ _ r.capacity)),
                             (pass_none 13 _ (disjoint_overlaps (ranges lim e xs) r.disjoint), tt),

@@ -1,5 +1,5 @@
 // The footprint in scratch: laid out, sorted, and searched for ranges that overlap.
-ghost use Rattle.std.specs.Prelude.{◌≡◌, ◌+◌, ◌*◌, ◌≤◌, length};
+ghost use Rattle.std.specs.Prelude.{◌≡◌, ◌+◌, ◌*◌, ◌≤◌, false, length, true};
 ghost use Rattle.numbers.specs.Pairs.{pairs};
 ghost use Rattle.sort.specs.Sort.{Ascending};
 ghost use Rattle.footprint.specs.Inner.{neighbours_meet, LaidOut};
@@ -23,6 +23,21 @@ fn overlapping(s: &[u64]) -> bool
     false
 }
 
+// Whether each range ends where the next one begins, or before: they are sorted then, and don't overlap.
+fn apart(s: &[u64]) -> bool
+    ensures { result ≡ true → Ascending (pairs s.now) × (neighbours_meet (pairs s.now) ≡ false) }
+{
+    let (pairs, _) = s.as_chunks::<2>();
+    for i in 1..pairs.len() {
+        let [before, len] = pairs[i - 1];
+        let [offset, _] = pairs[i];
+        if offset < before || offset - before < len {
+            return false;
+        }
+    }
+    true
+}
+
 // Fills s with the footprint, sorted; answers whether it overlaps itself. As elsewhere behind refusal 2, the
 // block's log is asked for as at most 16: a type for that would be made of a plain number at each call.
 pub(crate) fn lay_out(limits: Limits, entry: Entry, extents: &[u64], s: &mut [u64]) -> bool
@@ -36,6 +51,9 @@ pub(crate) fn lay_out(limits: Limits, entry: Entry, extents: &[u64], s: &mut [u6
     s[3] = block;
     let committed = s.len() - 4;
     s[4..].copy_from_slice(&extents[..committed]);
+    if apart(s) {
+        return false;
+    }
     let _sorted = sort_pairs(s);
     overlapping(s)
 }

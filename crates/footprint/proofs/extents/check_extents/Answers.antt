@@ -2,7 +2,7 @@
 use borrow.Author.Rules.{rules}
 use lib.Seq.{length-take-le}
 use Rattle.std.specs.Prelude.{Err}
-use Rattle.std.proofs.Common.{◌≡◌, ap, sym, ◌∙◌, take, arith, eq-eqb, ne_eqb, ltb-false}
+use Rattle.std.proofs.Common.{◌≡◌, ap, sym, ◌∙◌, take, arith, eq-eqb, ne_eqb}
 use Rattle.std.proofs.lemmas.List.{take-map}
 use Rattle.footprint.specs.Footprint.{committed}
 use Rattle.numbers.specs.Pairs.{chunk_range, ranges_in}

@@ -1,26 +1,32 @@
 -- `footprint::layout::lay_out` meets its contract: the slots are filled, sorted, and their neighbours looked at.
-use Prim.Native.Nat.{◌-◌}
-use borrow.Rule.Slice.PartMut.{same_len_mid}
-use mathlib.Core.Path.{◌≡◌, ap, ◌∙◌}
+use Prim.Native.Nat.{ℕ, ◌-◌}
+use borrow.Rule.Slice.PartMut.{put_mid, same_len_mid}
+use mathlib.Core.List.{List}
+use mathlib.Core.Path.{◌≡◌, ◌∙◌}
 use native.Mathlib.Omega.{arith}
 use lib.ListN.{length-set, set, length}
-use Rattle.footprint.specs.Footprint.{ranges, footprint_of}
-use Rattle.footprint.specs.Inner.{neighbours_meet}
-use Rattle.numbers.specs.Pairs.{pairs, flat}
 use Rattle.footprint.proofs.Blocks.{exact}
-use Rattle.footprint.proofs.Laying.{copied_behind, laid_out}
-use Rattle.numbers.proofs.Pairs.{pairs_flat}
-use Rattle.sort.proofs.Laws.{sorted_ascending}
+use Rattle.footprint.proofs.Laying.{copied_behind, filled, in_order, laid_apart, laid_out}
 use Rattle.footprint.proofs.layout.lay_out.Goals as goal
-use Rattle.footprint.proofs.layout.lay_out.Goals.{After-sort_pairs-sorted}
+use Rattle.footprint.proofs.layout.lay_out.Goals.{After-copy_from_slice}
 
-laid : (c : After-sort_pairs-sorted) → c.sort_pairs-sorted.new.s ≡ flat (footprint_of c.args.limits c.args.entry c.args.extents.now)
-laid c =
-    let a = c.args in
-    laid_out a.limits a.entry _ _ a.s.now _ _ _
-    (exact _ c.block_of-block.ensures.0 c.requires.0) c.requires.1 c.requires.2
-    (copied_behind _ _ _ (simp length-set (omega (arith, c.requires.1))) (simp length-set (omega (arith, c.requires.1, c.requires.2)))
-    c.copy_from_slice.ensures.after) c.sort_pairs-sorted.ensures
+module _ (c : After-copy_from_slice) where
+  abbrev a : ℕ
+  a = c.args.entry.header_a
+
+  abbrev b : ℕ
+  b = c.args.entry.header_b
+
+  abbrev block : ℕ
+  block = c.block_of-block.result
+
+  abbrev four : List ℕ
+  four = set (set (set (set c.args.s.now 0 a) 1 block) 2 b) 3 block
+
+  filling : put_mid 4 (length four - 4) four c.copy_from_slice.new.self ≡ filled a block b block c.args.entry.extent_count c.args.extents.now c.args.s.now
+  filling =
+      copied_behind _ _ _ (simp length-set (omega (arith, c.requires.1))) (simp length-set (omega (arith, c.requires.1, c.requires.2)))
+      c.copy_from_slice.ensures.after
 
 pub bounds-s-0 : goal.bounds-s-0
 bounds-s-0 c = omega (arith, c.requires.1)
@@ -35,17 +41,22 @@ pub bounds-s-3 : goal.bounds-s-3
 bounds-s-3 c = rw (length-set, length-set, length-set) (omega (arith, c.requires.1))
 
 pub overlapping-requires : goal.overlapping-requires
-overlapping-requires c = let a = c.args in rw (laid (goal.at.overlapping-requires c).After-sort_pairs-sorted, pairs_flat) (sorted_ascending (ranges a.limits a.entry a.extents.now))
+overlapping-requires c =
+    in_order c.args.limits c.args.entry _ _ c.args.s.now _ (exact _ c.block_of-block.ensures.0 c.requires.0) c.requires.1 c.requires.2
+    (filling (goal.at.overlapping-requires c).After-copy_from_slice) _ _ c.sort_pairs-sorted.ensures
 
 pub shape_of-s : goal.shape_of-s
 shape_of-s c =
-    let e = c.args.entry in
-    let b = c.block_of-block.result in
-    let t = set (set (set (set c.args.s.now 0 e.header_a) 1 b) 2 e.header_b) 3 b in
+    let t = four (goal.at.shape_of-s c).After-copy_from_slice in
     let l : length t ≡ length c.args.s.now = simp length-set in
     c.sort_pairs-sorted.auto.s ∙ same_len_mid 4 (length t - 4) t c.copy_from_slice.new.self c.copy_from_slice.ensures.len ∙ l
 
+pub returns-then-apart : goal.returns-then-apart
+returns-then-apart c =
+    laid_apart c.args.limits c.args.entry _ _ c.args.s.now _ (exact _ c.block_of-block.ensures.0 c.requires.0) c.requires.1 c.requires.2
+    (filling (goal.at.returns-then-apart c).After-copy_from_slice) (c.apart.ensures c.if-apart.true)
+
 pub returns : goal.returns
-returns c = let a = c.args in
-    let e = laid (goal.at.returns c).After-sort_pairs-sorted in
-    record { slots = e; answer = c.overlapping.ensures ∙ ap neighbours_meet (ap pairs e ∙ pairs_flat (footprint_of a.limits a.entry a.extents.now)) }
+returns c =
+    laid_out c.args.limits c.args.entry _ _ c.args.s.now _ (exact _ c.block_of-block.ensures.0 c.requires.0) c.requires.1 c.requires.2
+    (filling (goal.at.returns c).After-copy_from_slice) _ _ _ c.sort_pairs-sorted.ensures c.overlapping.ensures

@@ -8,8 +8,6 @@ use lib.ListN.{take}
 use mathlib.Core.List.{List}
 use mathlib.Core.Bool.{Bool, false, ◌||◌}
 use mathlib.Core.Path.{◌≡◌, sym, ◌∙◌, ap}
-use native.Mathlib.Omega.{arith}
-use lib.Pow.{pow_pos}
 use borrow.Author.Tests.{lt-ltb, le-ltb}
 use Rattle.footprint.specs.Footprint.{block_of, entry_fails, span_fails, block_fails, near}
 use Rattle.footprint.specs.declared.Entry.{Entry}
@@ -97,5 +95,6 @@ pub returns : goal.returns
 unfolding entry_fails
 returns c =
     let none : Range → _ = λ (x : Range). x.len == 0 in
-    let k = any_first none c.args.entry.extent_count c.as_chunks.result.0.now ∙ ap (λ (xs : List Range). any none (take c.args.entry.extent_count xs)) (ap ranges_in c.as_chunks.ensures.front ∙ chunk_pairs c.args.extents.now) in
+    let k = any_first none c.args.entry.extent_count c.as_chunks.result.0.now ∙ ap (λ (xs : List Range). any none (take c.args.entry.extent_count xs))
+    (ap ranges_in c.as_chunks.ensures.front ∙ chunk_pairs c.args.extents.now) in
     c.some_empty.ensures ∙ k ∙ simp (placed (goal.at.returns c).Else-near, le-ltb _ _ c.if-entry-2.false)
