@@ -1,6 +1,6 @@
 -- What each return of `create` promises.
 use Rattle.std.specs.Option.{is_some}
-use Rattle.plan_record.specs.Promises.{Fits}
+use Rattle.plan_record.specs.Promises.{Fits, Named}
 use Rattle.numbers.specs.declared.refusal.Refusal.TheVariants.{Lists, NumberHeld, NameHeld, Full, LastNumber, OverCap, NoRoom}
 use Rattle.numbers.specs.declared.refusal.Refusal.{Refusal}
 use Prim.Native.Nat.{ℕ, ◌+◌, ◌*◌, ◌≤◌, ◌<◌}
@@ -20,7 +20,7 @@ use Rattle.model.specs.Span.{least_free}
 use Rattle.numbers.specs.Lists.{All, any, same, Distinct}
 use Rattle.numbers.specs.Refusals.{refuse, first, accepted, refusal_number}
 use Rattle.numbers.specs.Sums.{top, stop, sum}
-use Rattle.plan_record.specs.Inner.{block_in, has_name, Named}
+use Rattle.plan_record.specs.Inner.{block_in, has_name}
 use Rattle.plan_record.specs.Plan.{row_in, region_of, regions_of, rows_of, row_of, cap_of, world_of, Mapped, Valid, place_in, past_region, reply_of}
 use Rattle.plan_record.specs.Record.{text_of}
 use Rattle.plan_record.specs.declared.names.Name.{Name}

@@ -50,7 +50,8 @@ module _ (rs : List Region) (i n : ℕ) (h : i < n) (l : n ≤ length rs) where
       let k : length ys ≡ n - i = ap length y ∙ length-append between (x ∷ []) ∙ omega arith in
       sym (take-append-drop n (put_mid i (n - i) rs ys))
       ∙ rw (take-put_mid i (n - i) rs ys n (omega arith) (omega arith), drop-put_mid i (n - i) rs ys n (omega arith) (omega arith) k)
-      (rw y (append_assoc (take i rs) (between ++ (x ∷ [])) (drop n rs) ∙ ap (λ (t : List Region). take i rs ++ t) (append_assoc between (x ∷ []) (drop n rs)) ∙ sym (append_assoc (take i rs) between (x ∷ drop n rs))))
+      (rw y (append_assoc (take i rs) (between ++ (x ∷ [])) (drop n rs) ∙ ap (λ (t : List Region). take i rs ++ t)
+      (append_assoc between (x ∷ []) (drop n rs)) ∙ sym (append_assoc (take i rs) between (x ∷ drop n rs))))
 
   pub moved_front : take (n - 1) (moved i n rs) ≡ take i rs ++ between
   unfolding moved

@@ -7,7 +7,7 @@ use Rattle.numbers.specs.Refusals.{first}
 use Rattle.numbers.specs.Sums.{top, stop}
 use Rattle.plan_record.specs.Inner.{block_in}
 use Rattle.plan_record.specs.Record.{text_of}
-use Rattle.plan_record.specs.Plan.{regions_of, world_of, Valid, spot_of, past_region, Reply}
+use Rattle.plan_record.specs.Plan.{regions_of, world_of, Valid, spot_of, past_region}
 use Rattle.plan_record.specs.declared.Outcome.{Outcome}
 use Rattle.plan_record.specs.declared.Plan.{Plan}
 use Rattle.plan_record.specs.declared.names.Name.{Name}

@@ -10,7 +10,7 @@ use native.Mathlib.Nat.{zero-add}
 use native.Mathlib.Omega.{arith}
 use lib.Dec.{ltb}
 use lib.ListN.{length, take, drop, get_or, length-map, length-drop, take-append-drop}
-use lib.Seq.{sets-eq, drop-drop, length-take-le, take-length}
+use lib.Seq.{sets-eq, drop-drop, drop_at, length-take-le, take-length}
 use borrow.Author.Tests.{le-ltb, lt-ltb}
 use Rattle.numbers.specs.Pairs.{pairs, flat}
 use Rattle.numbers.specs.Range.{Range, total}
@@ -85,6 +85,7 @@ module _ (p : Plan) (i : ℕ) (xs out₀ : List ℕ) where
       record {
         answer = λ ss fs v. sym (simp (f ss fs v));
         record_is = λ ss fs f v e. absurd (no_error f Lists (sym e));
+        behind = λ f e. absurd (no_error f Lists (sym e));
         slots = λ ss fs v. simp (f ss fs v);
         refused = λ n e. refl;
         short = λ h. refl;
@@ -100,12 +101,13 @@ module _ (p : Plan) (i : ℕ) (xs out₀ : List ℕ) where
 
     given : (out : List ℕ) (f : Record)
         → ((ss fs : List ℕ) → Valid p xs ss fs → (length here.extents ≤ length (pairs out₀)) × (record_of f ≡ handed_from here) × (out ≡ flat here.extents ++ drop (length (flat here.extents)) out₀))
-        → Gives out (Ok f)
-    given out f g =
+        → drop (2 * f.entry.extent_count) out ≡ drop (2 * f.entry.extent_count) out₀ → Gives out (Ok f)
+    given out f g b =
         record {
           answer = λ ss fs v. sym (passes _ refl (g ss fs v).0);
           record_is = λ ss fs r v e. let q : f ≡ r = cc in ap record_of (sym q) ∙ (g ss fs v).1;
           slots = λ ss fs v. let z = passes _ refl (g ss fs v).0 in rw z (g ss fs v).2;
+          behind = λ r e. let q : f ≡ r = cc in rw (← q) b;
           refused = λ n e. absurd (no_error f n e);
           short = λ h. absurd (omega arith);
         }
@@ -117,7 +119,7 @@ module _ (p : Plan) (i : ℕ) (xs out₀ : List ℕ) where
 
       pub hands_past : m ≤ i → Gives out₀ (Ok blank_record)
       unfolding flat sum
-      hands_past h = let e = past_is h in given out₀ blank_record (λ ss fs v. rw e (omega arith, refl, refl))
+      hands_past h = let e = past_is h in given out₀ blank_record (λ ss fs v. rw e (omega arith, refl, refl)) refl
 
       module _ (l : i < m) where
         inside : i < length (regions_of p)
@@ -152,3 +154,8 @@ module _ (p : Plan) (i : ℕ) (xs out₀ : List ℕ) where
               filed_is xs (region_at p i) n (sym k ∙ ap (λ (r : region.Region). length r.extents) here_is) t.lays.capacity ∙ ap handed_from (sym here_is),
               laid_written out₀ out here.extents (subst (Lays out₀ out 0) x b) w (omega arith),
             ))
+            (let k : length (region_extents xs (region_at p i)) ≡ n = extents_length xs (region_at p i) long ∙ sym e in
+            let z = length_flat (region_extents xs (region_at p i)) in
+            let d = laid_written out₀ out (region_extents xs (region_at p i)) b w (omega arith) in
+            let t : length (flat (region_extents xs (region_at p i))) ≡ 2 * n = omega arith in
+            ap (drop (2 * n)) d ∙ drop_at (flat (region_extents xs (region_at p i))) _ (2 * n) t ∙ ap (λ (j : ℕ). drop j out₀) t)

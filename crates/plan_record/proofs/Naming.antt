@@ -10,7 +10,8 @@ use native.Mathlib.Omega.{arith}
 use lib.ListN.{length, take, replicate, length-take, length-append, length-replicate}
 use lib.Seq.{take-append-le}
 use Rattle.numbers.specs.Lists.{any, same}
-use Rattle.plan_record.specs.Inner.{has_name, Named}
+use Rattle.plan_record.specs.Inner.{has_name}
+use Rattle.plan_record.specs.Promises.{Named}
 use Rattle.plan_record.specs.Plan.{regions_of}
 use Rattle.plan_record.specs.Record.{name_of}
 use Rattle.plan_record.specs.declared.Plan.{Plan}
@@ -38,6 +39,6 @@ same_length bytes n name full h e =
     pointwise_same name (take (length name) bytes) ∙ same_swap name (take (length name) bytes)
     ∙ ap (λ (l : List ℕ). same l name) (ap (λ (k : ℕ). take k bytes) (sym e) ∙ sym (name_front bytes n (omega arith)))
 
-pub named_told : (p : Plan) (name : List ℕ) (n : ℕ) (b : Bool) → n ≡ length (regions_of p) → b ≡ list_any (has_name name) (take n p.regions) → Named p name b
-named_told p name n b m e =
-    record { told = λ l. e ∙ list_any_is (has_name name) (take n p.regions) ∙ ap (any (has_name name)) (counted_are p n m) }
+pub named_told : (p : Plan) (name : List ℕ) (n : ℕ) (b : Bool) → n ≡ length (regions_of p) → b ≡ list_any (has_name name) (take n p.regions) → length name ≤ 24 → Named p name b
+named_told p name n b m e h =
+    record { long = λ l. absurd (omega arith); told = λ l. e ∙ list_any_is (has_name name) (take n p.regions) ∙ ap (any (has_name name)) (counted_are p n m) }

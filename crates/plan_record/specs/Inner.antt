@@ -3,7 +3,7 @@ use Rattle.std.specs.Prelude.{ℕ, ◌+◌, ◌-◌, ◌*◌, ◌^◌, ◌<◌, 
 use Rattle.std.proofs.lemmas.List.Edits.{sets}
 use Rattle.freemap.specs.Fit.{first_fit}
 use Rattle.freemap.specs.Gaps.{gaps_of}
-use Rattle.numbers.specs.Lists.{All, any, same}
+use Rattle.numbers.specs.Lists.{All, same}
 use Rattle.numbers.specs.Pairs.{pairs}
 use Rattle.numbers.specs.Powers.{is_power_of_two}
 use Rattle.numbers.specs.Range.{Range, range, Within, Disjoint, total}
@@ -27,10 +27,6 @@ held_by block r = 2 * block + r.map.capacity
 
 abbrev pub has_name : List ℕ → Region → Bool
 has_name name r = same (text_of r.name) name
-
--- What `named` tells of a name of at most 24 bytes.
-pub record Named (p : Plan) (name : List ℕ) (r : Bool) : Type 0 where
-  pub told : length name ≤ 24 → r ≡ any (has_name name) (regions_of p)
 
 -- A region's extents and its footprint; no row is behind the 64th, and none has more than 60 places.
 unfoldable pub region_extents : List ℕ → Region → List Range

@@ -2,7 +2,8 @@
 ghost use Rattle.std.specs.Prelude.{◌≡◌, ◌≤◌, length};
 ghost use Rattle.std.specs.List.{list_any};
 ghost use Rattle.plan_record.specs.Record.{text_of, no_name};
-ghost use Rattle.plan_record.specs.Inner.{has_name, Named};
+ghost use Rattle.plan_record.specs.Inner.{has_name};
+ghost use Rattle.plan_record.specs.Promises.{Named};
 
 use crate::{Plan, Region};
 

@@ -4,7 +4,7 @@ ghost use Rattle.numbers.specs.Pairs.{pairs};
 ghost use Rattle.numbers.specs.Sums.{stop};
 ghost use Rattle.plan_record.specs.Inner.{laid_all, MostRanges};
 ghost use Rattle.plan_record.specs.Plan.{places};
-ghost use Rattle.plan_record.specs.Promises.{Fits};
+ghost use Rattle.plan_record.specs.Promises.{Fits, Places};
 
 use crate::footprints::Rows;
 use crate::search::Piece;
@@ -75,7 +75,7 @@ impl Plan {
 
     // The lowest free span of n bytes that starts at a multiple of the block.
     pub fn place(&self, n: u64, extents: &[u64]) -> Reply
-        ensures { Fits self.now n extents.now result }
+        ensures { Places self.now n extents.now result }
     {
         if extents.len() < 7680 {
             return Err(Refusal::Lists);

@@ -24,8 +24,12 @@ returns-in_err-i c =
     rw e (grows_refused _ _ _ _ _ c.requires (grow_unknown c.args.plan.now _ _ _ _ (sym c.find.ensures.place ∙ c.in_err-i.ensures.ok_part)))
 
 pub grow_test-requires : goal.grow_test-requires
-grow_test-requires c =
-    (subst (λ (o : Option ℕ). IfSome o (λ i. i < 64)) c.in_ok-i.ensures.ok_part c.find.ensures.below, (found_is c.args.plan.now _ _ (found (goal.at.grow_test-requires c).In_ok-i)).1, len-at c.args.plan.now c.in_ok-i.i c.step_at.ensures.0 c.block_of.ensures.0)
+grow_test-requires c = (
+  subst (λ (o : Option ℕ). IfSome o (λ i. i < 64)) c.in_ok-i.ensures.ok_part c.find.ensures.below,
+  (found_is c.args.plan.now _ _ (found (goal.at.grow_test-requires c).In_ok-i)).1,
+  len-at c.args.plan.now c.in_ok-i.i c.step_at.ensures.0
+      c.block_of.ensures.0,
+)
 
 pub returns-in_err-grow_test : goal.returns-in_err-grow_test
 returns-in_err-grow_test c =
@@ -38,7 +42,7 @@ returns-in_err-place c =
     rw e
     (grows_refused _ _ _ _ _ c.requires
     (grow_lost c.args.plan.now _ _ _ _ _ (found (goal.at.returns-in_err-place c).In_ok-i) c.in_ok-grow_test.ensures _
-    (len-at c.args.plan.now c.in_ok-i.i c.step_at.ensures.0 c.block_of.ensures.0) _ c.place.ensures _ c.in_err-place.was))
+    (len-at c.args.plan.now c.in_ok-i.i c.step_at.ensures.0 c.block_of.ensures.0) _ c.place.ensures.fits _ c.in_err-place.was))
 
 pub returns-in_err-at : goal.returns-in_err-at
 returns-in_err-at c =
@@ -46,7 +50,7 @@ returns-in_err-at c =
     rw e
     (grows_refused _ _ _ _ _ c.requires
     (grow_no_room c.args.plan.now _ _ _ _ _ (found (goal.at.returns-in_err-at c).In_ok-i) c.in_ok-grow_test.ensures _
-    (len-at c.args.plan.now c.in_ok-i.i c.step_at.ensures.0 c.block_of.ensures.0) _ c.in_ok-place.ensures (ap Ok c.in_err-at.ensures.ok_part)))
+    (len-at c.args.plan.now c.in_ok-i.i c.step_at.ensures.0 c.block_of.ensures.0) _ c.in_ok-place.ensures.fits (ap Ok c.in_err-at.ensures.ok_part)))
 
 pub returns-in_err-count_usage : goal.returns-in_err-count_usage
 returns-in_err-count_usage c =
@@ -54,7 +58,7 @@ returns-in_err-count_usage c =
     rw e
     (grows_refused _ _ _ _ _ c.requires
     (grow_never c.args.plan.now _ _ _ _ _ (found (goal.at.returns-in_err-count_usage c).In_ok-i) c.in_ok-grow_test.ensures _
-    (len-at c.args.plan.now c.in_ok-i.i c.step_at.ensures.0 c.block_of.ensures.0) _ c.in_ok-place.ensures _ (ap Ok c.in_ok-at.ensures.ok_part) _
+    (len-at c.args.plan.now c.in_ok-i.i c.step_at.ensures.0 c.block_of.ensures.0) _ c.in_ok-place.ensures.fits _ (ap Ok c.in_ok-at.ensures.ok_part) _
     c.count_usage.ensures _ c.in_err-count_usage.was))
 
 pub slice_bounds-extend-end : goal.slice_bounds-extend-end
@@ -70,7 +74,7 @@ returns-in_err-next c =
     let e : c.from_residual-in_err-next.result ≡ Err c.in_err-next.field-0.0 = search rules in
     rw e
     (grow_stuck c.args.plan.now _ _ _ _ _ (found (goal.at.returns-in_err-next c).In_ok-i) c.in_ok-grow_test.ensures _
-    (len-at c.args.plan.now c.in_ok-i.i c.step_at.ensures.0 c.block_of.ensures.0) _ c.in_ok-place.ensures _ (ap Ok c.in_ok-at.ensures.ok_part) _
+    (len-at c.args.plan.now c.in_ok-i.i c.step_at.ensures.0 c.block_of.ensures.0) _ c.in_ok-place.ensures.fits _ (ap Ok c.in_ok-at.ensures.ok_part) _
     c.count_usage.ensures _ c.own_row-a.ensures (long (goal.at.returns-in_err-next c).Start).0 (long (goal.at.returns-in_err-next c).Start).1 _ _
     _ c.extend.ensures _ c.in_err-next.was c.requires)
 
@@ -78,6 +82,6 @@ pub returns : goal.returns
 returns c =
     rw c.stretch.ensures
     (grow_done c.args.plan.now _ _ _ _ _ (found (goal.at.returns c).In_ok-i) c.in_ok-grow_test.ensures _
-    (len-at c.args.plan.now c.in_ok-i.i c.step_at.ensures.0 c.block_of.ensures.0) _ c.in_ok-place.ensures _ (ap Ok c.in_ok-at.ensures.ok_part) _
+    (len-at c.args.plan.now c.in_ok-i.i c.step_at.ensures.0 c.block_of.ensures.0) _ c.in_ok-place.ensures.fits _ (ap Ok c.in_ok-at.ensures.ok_part) _
     c.count_usage.ensures _ c.own_row-a.ensures (long (goal.at.returns c).Start).0 (long (goal.at.returns c).Start).1 _ _ _ c.extend.ensures _
     c.in_ok-next.was _ _ refl c.put_pair.ensures c.find.ensures.full c.requires)

@@ -34,4 +34,5 @@ returns-in_err-count_usage c =
 
 pub returns : goal.returns
 returns c =
-    publish_done c.args.plan.now _ _ _ (found (goal.at.returns c).In_ok-i) _ c.block_of.ensures.0 c.if-len-block_of-ne0.false _ _ c.publish_len.ensures c.in_ok-next.was _ c.saturating_sub.ensures _ c.count_usage.ensures
+    publish_done c.args.plan.now _ _ _ (found (goal.at.returns c).In_ok-i) _ c.block_of.ensures.0 c.if-len-block_of-ne0.false _ _
+    c.publish_len.ensures c.in_ok-next.was _ c.saturating_sub.ensures _ c.count_usage.ensures

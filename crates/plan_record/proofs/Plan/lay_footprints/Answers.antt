@@ -25,5 +25,16 @@ returns c =
     let g = c.loop-region.invariant in
     record {
       lays = all_ends c.args.self.now n.0 g c.block_of-block.ensures.0 (omega arith);
-      value = (all_length c.args.self.now n.0 g c.block_of-block.ensures.0 (omega arith), omega (arith, g.few, g.below, n.0, length-take c.counted-n.result c.args.self.now.regions, length-take c.args.self.now.count c.args.self.now.regions));
+      value = (
+        all_length c.args.self.now n.0 g c.block_of-block.ensures.0 (omega arith),
+        omega (
+          arith,
+          g.few,
+          g.below,
+          n.0,
+          length-take c.counted-n.result c.args.self.now.regions,
+          length-take c.args.self.now.count
+              c.args.self.now.regions,
+        ),
+      );
     }
