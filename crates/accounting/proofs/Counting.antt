@@ -106,7 +106,8 @@ module _ (ts ls ps : List ℕ) (i : ℕ) where
   usages_end h = rw (drop_of_length-le ts h)
 
 module _ (block : ℕ) (ss ts ns : List ℕ) (i : ℕ) where
-  pub ready_next : i < length ts → get_or ss i 0 ≡ 1 → (bytes : ℕ) → bytes ≡ added_len (get_or ns i 0) block → ready_usages block (drop i ss) (drop i ts) (drop i ns) ≡ usage (get_or ts i 0) (get_or ns i 0) bytes ∷ ready_usages block (drop (i + 1) ss) (drop (i + 1) ts) (drop (i + 1) ns)
+  pub ready_next : i < length ts → get_or ss i 0 ≡ 1 → (bytes : ℕ) → bytes ≡ added_len (get_or ns i 0) block → ready_usages block (drop i ss)
+      (drop i ts) (drop i ns) ≡ usage (get_or ts i 0) (get_or ns i 0) bytes ∷ ready_usages block (drop (i + 1) ss) (drop (i + 1) ts) (drop (i + 1) ns)
   unfolding ready_usages
   ready_next h e bytes b = rw (from_here ts i 0 h, at_front ss i 0, at_front ns i 0, drop-drop 1 i ss, drop-drop 1 i ns, e, b)
 
@@ -153,7 +154,8 @@ module _ (block : ℕ) (ss ts ns : List ℕ) where
   gather_ready_from i zero e = sym (ready_end block ss ts ns i (omega arith))
   gather_ready_from i (suc n) e =
       by_eq (get_or ss i 0) 1
-      (λ z. simp (eq-eqb _ _ z) (ap (λ (us : List Usage). usage (get_or ts i 0) (get_or ns i 0) (added_len (get_or ns i 0) block) ∷ us) (gather_ready_from (i + 1) n (omega arith)) ∙ sym (ready_next block ss ts ns i (omega arith) z _ refl)))
+      (λ z. simp (eq-eqb _ _ z) (ap (λ (us : List Usage). usage (get_or ts i 0) (get_or ns i 0) (added_len (get_or ns i 0) block) ∷ us)
+      (gather_ready_from (i + 1) n (omega arith)) ∙ sym (ready_next block ss ts ns i (omega arith) z _ refl)))
       (λ d. simp (ne_eqb _ _ d) (gather_ready_from (i + 1) n (omega arith) ∙ sym (ready_skip block ss ts ns i (omega arith) d)))
 
   pub gather_ready : gathered ready_at 0 (length ts) ≡ ready_usages block ss ts ns

@@ -55,7 +55,8 @@ unfolding on_row
 on_row_order tag rule t o = put_order tag_of (rule (row_of tag t.rows)) t.rows o
 
 -- a record by its parts
-made_of : (rs : List TagSpace) (n m : ℕ) (t : Table) → rs ≡ t.rows ++ replicate (96 - length t.rows) (blank 0) → n ≡ length t.rows → m ≡ t.total → record { rows = rs; count = n; reserved = m } ≡ accounts_of t
+made_of : (rs : List TagSpace) (n m : ℕ) (t : Table) → rs ≡ t.rows ++ replicate (96 - length t.rows) (blank 0) → n ≡ length t.rows → m ≡ t.total →
+    record { rows = rs; count = n; reserved = m } ≡ accounts_of t
 unfolding accounts_of
 made_of rs n m t p q s = rw (p, q, s)
 
@@ -100,11 +101,14 @@ module _ (a : Accounting) (v : Valid a) (tag at : ℕ) where
     pub found_row : row_of tag xs ≡ get_or a.rows at (blank 0)
     found_row = keyed_known tag_of xs v.order at tag (blank 0) in_rows has_tag (blank tag) ∙ sym (row_of_record a v at)
 
-    pub post_known : (rule : TagSpace → TagSpace) → KeepsTag rule → (x : TagSpace) → x ≡ rule (get_or a.rows at (blank 0)) → record { answer = Ok tt; accounts = record { rows = set a.rows at x; count = a.count; reserved = a.reserved } } ≡ handed (table_of a) (on_row tag rule (table_of a))
+    pub post_known : (rule : TagSpace → TagSpace) → KeepsTag rule → (x : TagSpace) → x ≡ rule (get_or a.rows at (blank 0)) → record
+        { answer = Ok tt; accounts = record { rows = set a.rows at x; count = a.count; reserved = a.reserved } } ≡ handed (table_of a)
+        (on_row tag rule (table_of a))
     unfolding on_row
     post_known rule keeps x q =
         let t : x.tag ≡ tag = ap (λ (r : TagSpace). r.tag) q ∙ keeps (get_or a.rows at (blank 0)) ∙ f.own in
-        let p : put (rule (row_of tag xs)) xs ≡ set xs at x = ap (λ (r : TagSpace). put (rule r) xs) found_row ∙ ap (λ (r : TagSpace). put r xs) (sym q) ∙ put_known tag_of xs v.order at tag (blank 0) in_rows has_tag x t in
+        let p : put (rule (row_of tag xs)) xs ≡ set xs at x = ap (λ (r : TagSpace). put (rule r) xs) found_row ∙ ap (λ (r : TagSpace). put r xs)
+        (sym q) ∙ put_known tag_of xs v.order at tag (blank 0) in_rows has_tag x t in
         let n : length (put (rule (row_of tag xs)) xs) ≡ length xs = ap length p ∙ length-set xs at x in
         let c = count_rows a v in
         ap (λ (b : Accounting). record { answer = Ok tt; accounts = b })
@@ -115,7 +119,8 @@ module _ (a : Accounting) (v : Valid a) (tag at : ℕ) where
 
     -- and is only asked for
     pub asked_known : record { answer = Ok tt; accounts = a } ≡ handed (table_of a) (on_row tag same (table_of a))
-    asked_known = ap (λ (l : List TagSpace). record { answer = Ok tt; accounts = record { rows = l; count = a.count; reserved = a.reserved } }) (sym (set-get_or a.rows at (blank 0))) ∙ post_known same (λ r. refl) (get_or a.rows at (blank 0)) refl
+    asked_known = ap (λ (l : List TagSpace). record { answer = Ok tt; accounts = record { rows = l; count = a.count; reserved = a.reserved } })
+        (sym (set-get_or a.rows at (blank 0))) ∙ post_known same (λ r. refl) (get_or a.rows at (blank 0)) refl
 
   -- it has none
   module _ (f : Belongs a tag at) where
@@ -143,7 +148,15 @@ module _ (a : Accounting) (v : Valid a) (tag at : ℕ) where
           ap (λ (b : Accounting). record { answer = Err Full; accounts = b }) v.record_of
           ∙ sym (handed_full (table_of a) (on_row tag rule (table_of a)) (let n = one_more in omega (arith, n, c, h)))
 
-      post_new : a.count < 96 → record { answer = Ok tt; accounts = record { rows = shifted at a.count x a.rows; count = a.count + 1; reserved = a.reserved } } ≡ handed (table_of a) (on_row tag rule (table_of a))
+      post_new : a.count < 96 → record {
+        answer = Ok tt;
+        accounts = record {
+          rows = shifted at a.count x a.rows;
+          count = a.count + 1;
+          reserved =
+              a.reserved;
+        };
+      } ≡ handed (table_of a) (on_row tag rule (table_of a))
       unfolding on_row
       post_new h =
           let c = count_rows a v in
@@ -166,7 +179,8 @@ module _ (a : Accounting) (v : Valid a) (tag at : ℕ) where
 -- ---- what is promised of a posting, by what the search found
 
 module _ (a : Accounting) (tag at : ℕ) (rule : TagSpace → TagSpace) (keeps : KeepsTag rule) (x : TagSpace) where
-  pub posts_known : Known a tag at → x ≡ rule (get_or a.rows at (blank 0)) → Posts a (on_row tag rule) (record { answer = Ok tt; accounts = record { rows = set a.rows at x; count = a.count; reserved = a.reserved } })
+  pub posts_known : Known a tag at → x ≡ rule (get_or a.rows at (blank 0)) → Posts a (on_row tag rule)
+      (record { answer = Ok tt; accounts = record { rows = set a.rows at x; count = a.count; reserved = a.reserved } })
   posts_known f q = posts a (on_row tag rule) _ (on_row_order tag rule) (λ v. post_known a v tag at f rule keeps x q) (λ n z. absurd (no_error tt n z))
 
   pub posts_unknown : Belongs a tag at → x ≡ rule (blank tag) → (p : Posted) → p ≡ inserted at x a → Posts a (on_row tag rule) p

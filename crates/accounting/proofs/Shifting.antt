@@ -38,7 +38,8 @@ shifted_blanks xs b x k m h =
     let d : drop k (xs ++ replicate (suc m) b) ≡ drop k xs ++ replicate (suc m) b = drop-append-le k xs (replicate (suc m) b) h in
     let n : suc (length xs) ≡ length xs + 1 = omega arith in
     let e : drop (suc (length xs)) (xs ++ replicate (suc m) b) ≡ replicate m b = ap (λ (k : ℕ). drop k (xs ++ replicate (suc m) b)) n ∙ drop-append-add xs (replicate (suc m) b) 1 in
-    ap (λ (t : List TagSpace). t ++ (x ∷ (take (length xs - k) (drop k (xs ++ replicate (suc m) b)) ++ drop (suc (length xs)) (xs ++ replicate (suc m) b)))) (take-append-le k xs (replicate (suc m) b) h)
+    ap (λ (t : List TagSpace). t ++ (x ∷ (take (length xs - k) (drop k (xs ++ replicate (suc m) b)) ++ drop (suc (length xs))
+    (xs ++ replicate (suc m) b)))) (take-append-le k xs (replicate (suc m) b) h)
     ∙ ap (λ (t : List TagSpace). take k xs ++ (x ∷ (take (length xs - k) t ++ drop (suc (length xs)) (xs ++ replicate (suc m) b)))) d
     ∙ ap (λ (t : List TagSpace). take k xs ++ (x ∷ (t ++ drop (suc (length xs)) (xs ++ replicate (suc m) b)))) (take_at (drop k xs) (replicate (suc m) b) (length xs - k) l)
     ∙ ap (λ (t : List TagSpace). take k xs ++ (x ∷ (drop k xs ++ t))) e

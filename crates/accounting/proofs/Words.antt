@@ -115,7 +115,9 @@ module _ (tag : ℕ) (t : Table) where
 
 -- the tag's usages together
 module _ (tag : ℕ) where
-  pub usage_row_from : (us : List Usage) (t : Table) → (row_of tag t.rows).logical ≤ top → (row_of tag t.rows).physical ≤ top → row_of tag (add_all us t).rows ≡ add_usage (sum (map (λ (u : Usage). u.logical) (of_tag tag us))) (sum (map (λ (u : Usage). u.physical) (of_tag tag us))) (row_of tag t.rows)
+  pub usage_row_from : (us : List Usage) (t : Table) → (row_of tag t.rows).logical ≤ top → (row_of tag t.rows).physical ≤ top → row_of tag
+      (add_all us t).rows ≡ add_usage (sum (map (λ (u : Usage). u.logical) (of_tag tag us))) (sum (map (λ (u : Usage). u.physical) (of_tag tag us)))
+      (row_of tag t.rows)
   unfolding add_all of_tag sum
   usage_row_from [] t l p = sym (add_nothing (row_of tag t.rows) l p)
   usage_row_from (u ∷ us) t l p =
@@ -130,7 +132,8 @@ module _ (tag : ℕ) where
       simp (ne_eqb u.tag tag n)
       (usage_row_from us (on_row u.tag rule t) (rw o l) (rw o p) ∙ rw o))
 
-  pub usage_row : (us : List Usage) → row_of tag (add_all us no_tags).rows ≡ add_usage (sum (map (λ (u : Usage). u.logical) (of_tag tag us))) (sum (map (λ (u : Usage). u.physical) (of_tag tag us))) (blank tag)
+  pub usage_row : (us : List Usage) → row_of tag (add_all us no_tags).rows ≡ add_usage (sum (map (λ (u : Usage). u.logical) (of_tag tag us)))
+      (sum (map (λ (u : Usage). u.physical) (of_tag tag us))) (blank tag)
   unfolding keyed
   usage_row us = usage_row_from us no_tags (omega arith) (omega arith)
 
@@ -147,7 +150,8 @@ module _ (tag : ℕ) where
   unfolding add_all
   has_usage [] t (inl a) = absurd a
   has_usage [] t (inr h) = h
-  has_usage (u ∷ us) t (inl (inl e)) = has_usage us _ (inr (subst (λ (n : ℕ). HasRow n (on_row u.tag (add_usage u.logical u.physical) t).rows) e (tag_has u.tag (add_usage u.logical u.physical) (λ r. refl) t)))
+  has_usage (u ∷ us) t (inl (inl e)) = has_usage us _ (inr (subst (λ (n : ℕ). HasRow n (on_row u.tag (add_usage u.logical u.physical) t).rows) e
+      (tag_has u.tag (add_usage u.logical u.physical) (λ r. refl) t)))
   has_usage (u ∷ us) t (inl (inr a)) = has_usage us _ (inl a)
   has_usage (u ∷ us) t (inr h) = has_usage us _ (inr (others_have u.tag (add_usage u.logical u.physical) (λ r. refl) t tag h))
 

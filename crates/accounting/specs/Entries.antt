@@ -37,7 +37,7 @@ ready_usages block ss (t ∷ ts) ns =
     cond (eqb (get_or ss 0 0) 1) (usage t (get_or ns 0 0) (added_len (get_or ns 0 0) block) ∷ ready_usages block (drop 1 ss) ts (drop 1 ns))
     (ready_usages block (drop 1 ss) ts (drop 1 ns))
 
--- A table with each usage added in turn; `usage_row` (proofs/Words) says what each tag's row is then.
+-- A table with each usage added in turn; `usage_row` (proofs/Words) says what each tag's row is then, from no tags on.
 unfoldable pub add_all : List Usage → Table → Table
 add_all [] t = t
 add_all (u ∷ us) t = add_all us (on_row u.tag (add_usage u.logical u.physical) t)

@@ -88,7 +88,7 @@ pub record Posts (a : Accounting) (next : Table → Table) (r : Posted) : Type 0
 abbrev pub leaving : Result (Unit {0}) Refusal → Accounting → Posted
 leaving answer accounts = record { answer = answer; accounts = accounts }
 
--- An answer in place of that a call is done.
+-- The answer of a call that tells something, where it is not refused.
 abbrev pub answering : Bool → Result (Unit {0}) Refusal → Result Bool Refusal
 answering ok (Ok done) = Ok ok
 answering ok (Err e) = Err e

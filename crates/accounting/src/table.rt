@@ -126,7 +126,8 @@ impl Accounting {
         self.post(tag, |row| row.set_cap(cap))
     }
 
-    // Whether extra bytes more are within a tag's cap, as `fits` answers it. No row is made.
+    // Whether extra bytes more are within a tag's cap, as `fits` answers it of accounts that a call handed back. No row
+    // is made.
     pub fn allows(&self, tag: u32, extra: u64) -> Result<bool, Refusal>
         ensures { Allows self.now tag extra result }
     {

@@ -106,7 +106,8 @@ module _ (len : ℕ) (small : len ≤ top) where
   unfolding swept
   swept_gaps [] s a =
       by_lt a len
-      (λ h. simp (lt-ltb _ _ h) (take_to (free []) a len h (omega arith) (λ x l u. before_all len [] tt x u) (inl refl) ∙ ap (λ (l : List Range). range a (len - a) ∷ l) (none_left (free []) len (omega arith))))
+      (λ h. simp (lt-ltb _ _ h) (take_to (free []) a len h (omega arith) (λ x l u. before_all len [] tt x u) (inl refl) ∙ ap
+      (λ (l : List Range). range a (len - a) ∷ l) (none_left (free []) len (omega arith))))
       (λ h. simp (le-ltb _ _ h) (none_left (free []) a h))
   swept_gaps (r ∷ rs) s a =
       by_eq r.len 0
@@ -176,7 +177,8 @@ sweep_begins te len rs gs h =
 gap_one : (a b : ℕ) → length (gap_to a b) ≤ 1
 gap_one a b = by_lt a b (λ l. simp (lt-ltb _ _ l) (omega arith)) (λ l. simp (le-ltb _ _ l) (omega arith))
 
-noted_slots : (done : List Range) (gs₀ gs gs' : List ℕ) (k a b n : ℕ) → length done ≡ k → k < length (pairs gs₀) → gs ≡ written (flat done) gs₀ → Noted gs gs' k a b n → gs' ≡ written (flat (done ++ gap_to a b)) gs₀
+noted_slots : (done : List Range) (gs₀ gs gs' : List ℕ) (k a b n : ℕ) → length done ≡ k → k < length (pairs gs₀) → gs ≡ written (flat done) gs₀ →
+    Noted gs gs' k a b n → gs' ≡ written (flat (done ++ gap_to a b)) gs₀
 noted_slots done gs₀ gs gs' k a b n e h w t =
     by_lt a b
     (λ l. simp (lt-ltb _ _ l) ((simp (lt-ltb _ _ l) at t.slots) ∙ ap (λ (s : List ℕ). set (set s (2 * k) a) (2 * k + 1) (b - a)) w ∙ pair_written done gs₀ k a (b - a) e (pair_in gs₀ k h)))
@@ -277,7 +279,8 @@ module _ (rs gs : List ℕ) where
   unfolding answer refuse
   complement_refused te len e = record { answer = simp e; ranges = simp e; slots = simp e }
 
-  pub complement_done : (te len : ℕ) (rs' gs' : List ℕ) (r : Answer (Unit {0})) (m : FreeMap) → len ≤ top → is_odd rs ≡ false → length rs / 2 < length gs / 2 → Sorted rs rs' r → Swept te len (pairs rs') gs gs' m → Complemented te len rs rs' gs gs' (Ok m)
+  pub complement_done : (te len : ℕ) (rs' gs' : List ℕ) (r : Answer (Unit {0})) (m : FreeMap) → len ≤ top → is_odd rs ≡ false → length rs / 2 < length
+      gs / 2 → Sorted rs rs' r → Swept te len (pairs rs') gs gs' m → Complemented te len rs rs' gs gs' (Ok m)
   unfolding answer refuse
   complement_done te len rs' gs' r m h o l s w =
       let f = passes_both o l in

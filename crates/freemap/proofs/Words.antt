@@ -76,9 +76,11 @@ module _ (te len : ℕ) (rs : List Range) (small : len ≤ top) where
       span_in te (gaps_of te len rs) gaps_apart p n z (λ b k v. in_gap b (omega arith) (omega arith) (f b k v))
 
   -- and no other list is like that
-  pub gaps_only : (gs : List Range) → Apart te gs → Ends gs → ((b : ℕ) → Covered gs b → (te ≤ b) × (b < len) × (Covered rs b → ⊥)) → ((b : ℕ) → te ≤ b → b < len → (Covered rs b → ⊥) → Covered gs b) → gs ≡ gaps_of te len rs
+  pub gaps_only : (gs : List Range) → Apart te gs → Ends gs → ((b : ℕ) → Covered gs b → (te ≤ b) × (b < len) × (Covered rs b → ⊥)) →
+      ((b : ℕ) → te ≤ b → b < len → (Covered rs b → ⊥) → Covered gs b) → gs ≡ gaps_of te len rs
   gaps_only gs a e f g =
-      apart_only te te gs (gaps_of te len rs) a gaps_apart e (all_imp (λ (g : Range). g.offset + g.len ≤ len) (λ (g : Range). g.offset + g.len ≤ top) (λ x h. omega arith) (gaps_of te len rs) gaps_inside)
+      apart_only te te gs (gaps_of te len rs) a gaps_apart e (all_imp (λ (g : Range). g.offset + g.len ≤ len) (λ (g : Range). g.offset + g.len ≤ top)
+      (λ x h. omega arith) (gaps_of te len rs) gaps_inside)
       (λ x h. let k = f x h in in_gap x k.0 k.1 k.2) (λ x h. let k = gap_free x h in g x k.0 k.1 k.2)
 
 -- so they depend on which bytes are covered and on nothing else

@@ -20,8 +20,8 @@ skipped align skew g = nat_lt top (g.offset + skew + (align - 1))
 unfoldable pub allows : ℕ → ℕ → ℕ → Range → Bool
 allows len align skew g = not (skipped align skew g) && nat_le (place_in align skew g + len) (end_of g)
 
--- "in the first gap that allows it"; `fit_lowest` (proofs/Places) says that it is the least free span of all, and none
--- exactly where there is none.
+-- "in the first gap that allows it"; `fit_lowest` (proofs/Places) says that for a length above 0, where no gap can be skipped,
+-- it is the least free span of all, and none exactly where there is none.
 unfoldable pub first_fit : ℕ → ℕ → ℕ → List Range → Option ℕ
 first_fit len align skew [] = None
 first_fit len align skew (g ∷ gs) = cond (allows len align skew g) (Some (place_in align skew g)) (first_fit len align skew gs)

@@ -4,8 +4,8 @@ ghost use Rattle.numbers.specs.Pairs.{pairs, ranges_in};
 ghost use Rattle.numbers.specs.Range.{total};
 ghost use Rattle.numbers.specs.Sums.{stop};
 
-// The lengths of the gaps together, or 2^64 - 1 where the sum passes it. A sum of 128 bits is told so in the end,
-// and no addition waits for a test.
+// The lengths of the gaps together, or 2^64 - 1 where the sum passes it. A sum of 128 bits stops there once, in the
+// end, and no addition waits for a test.
 pub(crate) fn sum_bytes(gaps: &[[u64; 2]]) -> u64
     ensures { result ≡ stop (total (ranges_in gaps.now)) }
 {

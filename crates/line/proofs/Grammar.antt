@@ -124,7 +124,8 @@ reads line c e =
     within_line true e = (refl, e)
     within_line false e = absurd (none_some e)
 
-    named : (option_or (option_or (option_or (option_or (option_or (locate_in line) (grow_in line)) (publish_in line)) (create_in line)) (drop_in line)) (cap_in line) ≡ Some c) ⊎ (open_in line ≡ Some c) → Of line c
+    named : (option_or (option_or (option_or (option_or (option_or (locate_in line) (grow_in line)) (publish_in line)) (create_in line))
+        (drop_in line)) (cap_in line) ≡ Some c) ⊎ (open_in line ≡ Some c) → Of line c
     named d =
         ⊎_elim (λ d. ⊎_elim (λ d. ⊎_elim (λ d. ⊎_elim (λ d. ⊎_elim (λ d. ⊎_elim
         (locate_takes line c) (grow_takes line c) (either d)) (publish_takes line c) (either d)) (create_takes line c) (either d))
@@ -209,7 +210,8 @@ create_again i t name a b l h =
 
 -- Of the calls in front of the right one each begins with another name.
 named_again : (c : Command) → Fits c
-    → option_or (option_or (option_or (option_or (option_or (option_or (locate_in (line_of c)) (grow_in (line_of c))) (publish_in (line_of c))) (create_in (line_of c))) (drop_in (line_of c))) (cap_in (line_of c))) (open_in (line_of c)) ≡ Some c
+    → option_or (option_or (option_or (option_or (option_or (option_or (locate_in (line_of c)) (grow_in (line_of c))) (publish_in (line_of c)))
+    (create_in (line_of c))) (drop_in (line_of c))) (cap_in (line_of c))) (open_in (line_of c)) ≡ Some c
 unfolding locate_in grow_in publish_in create_in drop_in cap_in last_in field_in behind same
 named_again (opening lim) f = open_again lim.table_end lim.file_len lim.log2_block f.0 f.1 f.2
 named_again (calling (model.create id tag name)) f = rw (create_again id tag name f.0 f.1 f.2 f.3) refl

@@ -46,7 +46,8 @@ value_whole ds i v h e = sym (ap (value_from v) (drop_of_length-le ds h)) ∙ e
 -- ---- the calls' returns
 
 pub behind_told : (word text : List ℕ) (r : Option (Bor (List ℕ)))
-    → MatchOption r (pointwise eqb (take (length word) text) word ≡ false) (λ x. (pointwise eqb (take (length word) text) word ≡ true) × (x.now ≡ drop (length word) text) × (length x.now + length word ≡ length text))
+    → MatchOption r (pointwise eqb (take (length word) text) word ≡ false) (λ x. (pointwise eqb (take (length word) text) word ≡ true) ×
+    (x.now ≡ drop (length word) text) × (length x.now + length word ≡ length text))
     → option_map (λ x. x.now) r ≡ behind word text
 behind_told word text None h = behind_none word text h
 behind_told word text (Some x) h = behind_some word text x.now h.0 h.1

@@ -90,7 +90,8 @@ module _ (l : Listing) (block : List ℕ) (a : Option (List ℕ)) where
           wrote = appends_on a b c p.text (take x.text t) p.wrote (sent_whole b c (take x.text t) v q);
         }
 
-    pub passes_failed : {T E F : Type 0} {c : Option (List ℕ)} (r : Result T E) (e : E) (k : Listing) (d : F) → r ≡ Err e → Sent {T = T} {E = E} b c (take x.text t) r → Passes {T = T} {E = F} l block k a c (Err d)
+    pub passes_failed : {T E F : Type 0} {c : Option (List ℕ)} (r : Result T E) (e : E) (k : Listing) (d : F) → r ≡ Err e → Sent {T = T} {E = E} b c
+        (take x.text t) r → Passes {T = T} {E = F} l block k a c (Err d)
     passes_failed {T = T} {E = E} {c = c} r e k d err q₀ =
         let q = subst (λ r. Sent {T = T} {E = E} b c (take x.text t) r) err q₀ in
         let i = at + x.bytes in

@@ -16,7 +16,7 @@ abbrev pub bare : Limits → Opening
 bare lim = record { limits = lim; records = []; extents = []; scratch = 0; places = 64 }
 
 -- What a line is answered. There is a world from an accepted open on; a line is a command, or none where it is malformed. "25. A program
--- line is malformed, comes before an accepted open or opens after one (tested first)"
+-- line is malformed, comes before an accepted open or opens after one (tested first; ..)"
 unfoldable pub answer_in : Option World → Option Command → Answer (Option ℕ)
 answer_in s None = refused 25
 answer_in None (Some (opening lim)) = answer (open_refusal (bare lim)) None

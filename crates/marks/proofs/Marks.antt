@@ -19,7 +19,10 @@ use Rattle.settle.specs.Settle.{any_other, overlapped, superseded, highest, rena
 use Rattle.sort.specs.Sort.{insert, sorted}
 
 pub marks : Marks
-unfolding align_up up_to is_power pairs maximal ahead covered any has end_of tail_of complement_fails flat sorted insert precedes fit_refusal too_few first refuse answer first_fit allows skipped place_in settle_fails lent_fails sum too_long regions pieces_from marks_from overlapped superseded renamed any_other keep same highest meets runs_fail not_empty joins joined_to joined runs_from from_refusal extents_fail passes_top each_extent too_few_places runs_to locate_refusal last_at
+unfolding align_up up_to is_power pairs maximal ahead covered any has end_of tail_of complement_fails flat sorted insert precedes fit_refusal too_few
+    first refuse answer first_fit allows skipped place_in settle_fails lent_fails sum too_long regions pieces_from marks_from overlapped superseded
+    renamed any_other keep same highest meets runs_fail not_empty joins joined_to joined runs_from from_refusal extents_fail passes_top each_extent
+    too_few_places runs_to locate_refusal last_at
 marks =
     record {
       p1 = refl;

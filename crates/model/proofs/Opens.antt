@@ -16,7 +16,10 @@ use Rattle.settle.specs.Regions.{pieces_from}
 use Rattle.settle.specs.Settle.{any_other, overlapped, superseded, renamed, marks_from, highest as highest_of}
 
 pub opens : Accepting × Refusing × InOrder
-unfolding open_refusal lists_fail_in logs_fail_in length_fails shared marked each_record refusal_of lists_fail max_extents kind_code logs_fail span_fails block_fails near entry_fails count_fails outside overlaps refuse first each_extent answer any keep same sum pairs end_of meets pieces_from marks_from overlapped superseded renamed any_other highest_of highest rows_for keyed put_keyed refusal_to byte_for known has_key not_empty joins joined_to joined runs_from last_at
+unfolding open_refusal lists_fail_in logs_fail_in length_fails shared marked each_record refusal_of lists_fail max_extents kind_code logs_fail
+    span_fails block_fails near entry_fails count_fails outside overlaps refuse first each_extent answer any keep same sum pairs end_of meets
+    pieces_from marks_from overlapped superseded renamed any_other highest_of highest rows_for keyed put_keyed refusal_to byte_for known has_key
+    not_empty joins joined_to joined runs_from last_at
 opens = (
   record {
     number = refl;

@@ -92,7 +92,7 @@ logs_fail_in o =
 unfoldable pub length_fails : Limits → Bool
 length_fails lim = ltb lim.file_len lim.table_end || ltb (2 ^ 63 - 1) lim.file_len
 
--- 4 to 13: the lowest number of one record, with scratch for its count + 2 pairs.
+-- 4 to 13, once 1 and 2 have passed over all: the lowest number of one record, with scratch for its count + 2 pairs.
 abbrev pub record_refusal : Limits → Record → List ℕ → ℕ
 record_refusal lim r xs = refusal_of lim r.number r.entry r.header xs (2 * (r.entry.extent_count + 2))
 
@@ -101,10 +101,11 @@ unfoldable pub shared : List ℕ → Bool
 shared [] = false
 shared (n ∷ ns) = any (eqb n) ns || shared ns
 
--- 15. "Settlement marks a region overlapped or renamed", 1 and 2 in a mark, "with no unavailable ones".
+-- A region as settlement takes it.
 abbrev pub usable : Limits → Region → settling.Region
 usable lim r = record { seq = r.seq; ranges = footprint lim r; named = true; name = r.name }
 
+-- 15. "Settlement marks a region overlapped or renamed", 1 and 2 in a mark, "with no unavailable ones".
 unfoldable pub marked : Limits → List Region → Bool
 marked lim rs = any (λ (m : ℕ). not (eqb (m % 4) 0)) (marks_of (map (usable lim) rs) [])
 

@@ -33,7 +33,7 @@ first_from f b zero = None
 first_from f b (suc n) = cond (f b) (Some b) (first_from f (suc b) n)
 
 -- "first fit", "lowest address first": the least place of a free span of n bytes, none if none is free. `least_found`,
--- `found_least` and `none_free` (proofs/Spans) say that it is, `least_is_fit` that the free map's first fit is the same.
+-- `found_least` and `none_free` (proofs/Spans) say that it is, for n above 0, `least_is_fit` that the free map's first fit is the same.
 abbrev pub least_free : World → ℕ → Option ℕ
 least_free w n = first_from (is_free w n) w.limits.table_end (w.limits.file_len - w.limits.table_end)
 

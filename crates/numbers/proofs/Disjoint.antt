@@ -54,8 +54,11 @@ disjoint_between (x ∷ xs) ys d = (all_right (λ (q : Range). Meet x q → ⊥)
 -- one range more in the middle, or one less
 pub disjoint_with : (xs : List Range) (y : Range) (ys : List Range) → Disjoint (xs ++ ys) → MeetsNone y (xs ++ ys) → Disjoint (xs ++ (y ∷ ys))
 disjoint_with [] y ys d n = (n, d)
-disjoint_with (x ∷ xs) y ys d n =
-    (all_append (λ (q : Range). Meet x q → ⊥) xs (y ∷ ys) (all_left (λ (q : Range). Meet x q → ⊥) xs ys d.0) (none_sym y x n.0, all_right (λ (q : Range). Meet x q → ⊥) xs ys d.0), disjoint_with xs y ys d.1 n.1)
+disjoint_with (x ∷ xs) y ys d n = (
+  all_append (λ (q : Range). Meet x q → ⊥) xs (y ∷ ys) (all_left (λ (q : Range). Meet x q → ⊥) xs ys d.0)
+      (none_sym y x n.0, all_right (λ (q : Range). Meet x q → ⊥) xs ys d.0),
+  disjoint_with xs y ys d.1 n.1,
+)
 
 pub disjoint_middle : (xs : List Range) (y : Range) (ys : List Range) → Disjoint (xs ++ (y ∷ ys)) → MeetsNone y (xs ++ ys)
 disjoint_middle [] y ys d = d.0

@@ -11,7 +11,7 @@ use borrow.Author.Tests.{eq-eqb, ne_eqb}
 use Rattle.numbers.specs.Lists.{written}
 use Rattle.numbers.specs.Pairs.{is_odd, pairs, flat}
 use Rattle.numbers.specs.Range.{Range, range, blank}
-use Rattle.numbers.proofs.Lists.{from_here, written_next}
+use Rattle.numbers.proofs.Lists.{written_next}
 
 two_suc : (i : ℕ) → 2 * suc i ≡ suc (suc (2 * i))
 two_suc i = omega arith
@@ -73,11 +73,6 @@ pair_at (o ∷ []) i h = absurd (omega arith)
 pair_at (o ∷ n ∷ l) zero h = refl
 pair_at (o ∷ n ∷ l) (suc i) h = rw (two_suc_one i, two_suc i) (pair_at l i (omega arith))
 
--- the pairs from i on
-pub pair_next : (l : List ℕ) (i : ℕ) → i < length (pairs l) → drop i (pairs l) ≡ range (get_or l (2 * i) 0) (get_or l (2 * i + 1) 0) ∷ drop (i + 1) (pairs l)
-pair_next l i h =
-    from_here (pairs l) i blank h ∙ rw (pair_at l i (pair_in l i h))
-
 -- a store of both its numbers
 pub pair_set : (l : List ℕ) (i a b : ℕ) → 2 * i + 1 < length l → pairs (set (set l (2 * i) a) (2 * i + 1) b) ≡ set (pairs l) i (range a b)
 unfolding pairs
@@ -112,7 +107,8 @@ unfolding flat
 flat_next [] r = refl
 flat_next (q ∷ rs) r = ap (λ (t : List ℕ). q.offset ∷ q.len ∷ t) (flat_next rs r)
 
-pub pair_written : (rs : List Range) (s : List ℕ) (i a b : ℕ) → length rs ≡ i → 2 * i + 1 < length s → set (set (written (flat rs) s) (2 * i) a) (2 * i + 1) b ≡ written (flat (rs ++ (range a b ∷ []))) s
+pub pair_written : (rs : List Range) (s : List ℕ) (i a b : ℕ) → length rs ≡ i → 2 * i + 1 < length s → set (set (written (flat rs) s) (2 * i) a)
+    (2 * i + 1) b ≡ written (flat (rs ++ (range a b ∷ []))) s
 pair_written rs s i a b e h =
     let l : length (flat rs) ≡ 2 * i = length_flat rs ∙ omega arith in
     let m : length (flat rs ++ (a ∷ [])) ≡ 2 * i + 1 = length-append (flat rs) (a ∷ []) ∙ omega arith in

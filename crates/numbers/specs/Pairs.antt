@@ -6,7 +6,7 @@ use Rattle.numbers.specs.Range.{Range, range}
 abbrev pub is_odd : List ℕ → Bool
 is_odd l = eqb (length l % 2) 1
 
--- The pairs of a list. Of an odd one, which no call reads, the last number is left out.
+-- The pairs of a list. Of an odd one the last number is left out.
 unfoldable pub pairs : List ℕ → List Range
 pairs [] = []
 pairs (o ∷ []) = []

@@ -41,7 +41,7 @@ fn step_or_stop(lo: usize, step: usize, up: bool) -> usize
 }
 
 // lo + step where up, else lo, or 2^64 - 1 where the sum passes it. A search would guess a branch by up
-// wrong every other time, so the step is shifted; what is far too large is asked first, and never is.
+// wrong every other time, so the step is shifted; numbers that are far too large are tested for first, and never come.
 pub fn advance(lo: usize, step: usize, up: bool) -> usize
     ensures { result ≡ stop (lo + cond up step 0) }
 {

@@ -5,9 +5,9 @@ ghost use Rattle.numbers.specs.Refusals.{refusal_number, refusal_in};
 // A reason, each with document 01's number.
 #[derive(Clone, Copy, Debug, PartialEq, Eq)]
 pub enum Refusal {
-    // A list is too short, or a count over its limit.
+    // A list is too short, odd where it is of pairs, not of the header's count, or a count over its limit.
     Lists = 1,
-    // A block log is out of range, or an align no power of two.
+    // A block log is out of range or not the container's, or an align no power of two.
     Block = 2,
     // The container's length.
     Length = 3,

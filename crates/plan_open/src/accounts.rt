@@ -27,7 +27,7 @@ fn list_usage(
     }
 }
 
-// The accounts of the records, through the three lists that document 01 has from_usage take.
+// The accounts of the records, through the three lists that `from_usage` takes.
 pub(crate) fn accounts_of(limits: Limits, records: &[Record]) -> Accounting
     requires { (limits.log2_block ≤ 16) × (length records.now ≤ 64) }
     ensures { Accounted limits (records_of records.now) result }

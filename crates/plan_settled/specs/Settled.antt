@@ -1,4 +1,4 @@
--- The steps of settlement at open; but for `Block`, no public call promises anything by these.
+-- The steps of settlement at open; no public call promises anything by these.
 use Rattle.std.specs.Prelude.{ℕ, ◌%◌, ◌≤◌, Bool, not, List, map, ◌≡◌, eqb, length}
 use Rattle.footprint.specs.declared.Limits.{Limits}
 use Rattle.model.specs.Region.{Region}

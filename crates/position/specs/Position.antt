@@ -28,7 +28,7 @@ use Rattle.position.specs.Runs.{Whole, Loan, Loans, Arguments, OpensWith, openin
 
 -- ---- room
 
--- "Room is refused exactly when no span is free": of a call that wants n bytes, with the tests before that of room, in the world just
+-- Room is refused exactly when no span is free: of a call that wants n bytes, with the tests before that of room, in the world just
 -- before it, and the plan's answer to it.
 pub record Room (w : World) (tests : List ℕ) (n : ℕ) (a : Answer (Option ℕ)) : Type 0 where
   -- it passes every earlier check, and no span is free: refused for room
@@ -58,25 +58,25 @@ Rooms w (c ∷ cs) (a ∷ ns) = RoomFor w c a × Rooms (next w c) cs ns
 pub record After (w₀ : World) (cs : List Call) (ns : List (Answer (Option ℕ))) (h : Whole) (w : World) : Type 0 where
   -- every answer of the list is the one defined
   pub answers : ns ≡ answers_along w₀ cs
-  -- 1. "every published position is located, at the byte of the region's own extents laid end to end"
+  -- 1. every published position is located, at the byte of the region's own extents laid end to end
   pub located : (l : Loans) (id p : ℕ) (r : Reply) → Published w id p → Locates l h id p 1 r → reply_of r ≡ accepted (Some (byte_at w id p))
-  -- 2. "different pairs, different bytes": of region and published position
+  -- 2. different pairs, different bytes: of region and published position
   pub own : (l m : Loans) (id p jd q : ℕ) (r s : Reply) → Published w id p → Published w jd q → Locates l h id p 1 r → Locates m h jd q 1 s
       → reply_of r ≡ reply_of s → (id ≡ jd) × (p ≡ q)
-  -- 3. "such a byte stays until an accepted drop": over every later list without an accepted drop of the region, the position stays
+  -- 3. such a byte stays until an accepted drop: over every later list without an accepted drop of the region, the position stays
   -- published and locate gives the same byte
   pub stays : (l m : Loans) (id p : ℕ) (r s : Reply) (ds : List Call) (ms : List (Answer (Option ℕ))) (k : Whole) → Run h ds ms k → Keeps w id ds
       → Published w id p → Locates l h id p 1 r → Locates m k id p 1 s → Published (world_after w ds) id p × (reply_of s ≡ reply_of r)
   -- a dropped number is unknown, so that one created again is another region
   pub forgets : (id : ℕ) → known (next w (drop id)) id ≡ false
-  -- 4. "held + free = length - table end": the plan's held is the sum of footprints, its free that of the gaps
+  -- 4. held + free = length - table end: the plan's held is the sum of footprints, its free that of the gaps
   pub held_is : (l : Loan) (r : ℕ) → HeldTold l h r → r ≡ held w
   pub free_is : (l : Loan) (r : ℕ) → FreeTold l h r → r ≡ free w
   pub figures : (l m : Loan) (r s : ℕ) → HeldTold l h r → FreeTold m h s → r + s ≡ w.limits.file_len - w.limits.table_end
-  -- 5. "tag totals", of every tag, one without a row included: "physical totals count footprints, logical ones published lengths"
+  -- 5. tag totals, of every tag, one without a row included: "physical totals count footprints, logical ones published lengths"
   pub physical_is : (l : Loan) (tag r : ℕ) → PhysicalTold l h tag r → r ≡ physical w tag
   pub logical_is : (l : Loan) (tag r : ℕ) → LogicalTold l h tag r → r ≡ logical w tag
-  -- 6. "a create or grow that passes every earlier check is refused for room exactly when no span is free", just before it
+  -- 6. a create or grow that passes every earlier check is refused for room exactly when no span is free, just before it
   pub rooms : Rooms w₀ cs ns
 
 -- ---- the theorem

@@ -64,7 +64,13 @@ module _ (m : Placement) (xs : List Range) (l : Lays m xs) where
     unfolding locate_refusal
     locate_one p ss fs t h =
         let k = holds p h in
-        answer_value _ _ (none_first _ (pass_none 1 _ t, (pass_none 23 _ (le-ltb m.len (p + 1) (omega arith)), (pass_none 24 _ (le-ltb ((run_of m.runs p).start + (run_of m.runs p).len) (p + 1) (omega (arith, k.upto))), tt))))
+        answer_value _ _ (none_first _ (
+          pass_none 1 _ t,
+          (
+            pass_none 23 _ (le-ltb m.len (p + 1) (omega arith)),
+            (pass_none 24 _ (le-ltb ((run_of m.runs p).start + (run_of m.runs p).len) (p + 1) (omega (arith, k.upto))), tt),
+          ),
+        ))
         ∙ ap accepted (byte_laid m xs p l s.whole (omega (arith, s.fits, h)))
 
 -- ---- 24 by bytes: "The range crosses a run's end" where two neighbouring positions have bytes that are no neighbours

@@ -79,7 +79,8 @@ unfolding last_at
 last_none p r [] f = refl
 last_none p r (q ∷ qs) f = simp (lt-leb q.start p (f 0 (omega arith))) (last_none p r qs (λ j h. f (suc j) (omega arith)))
 
-last-at : (p : ℕ) (r : Run) (rs : List Run) (k : ℕ) → k < length rs → (get_or rs k blank_run).start ≤ p → ((j : ℕ) → k < j → j < length rs → p < (get_or rs j blank_run).start) → last_at p r rs ≡ get_or rs k blank_run
+last-at : (p : ℕ) (r : Run) (rs : List Run) (k : ℕ) → k < length rs → (get_or rs k blank_run).start ≤ p →
+    ((j : ℕ) → k < j → j < length rs → p < (get_or rs j blank_run).start) → last_at p r rs ≡ get_or rs k blank_run
 unfolding last_at
 last-at p r [] k h s f = absurd (not-suc-le-zero h)
 last-at p r (q ∷ qs) zero h s f = simp (le-leb q.start p s) (last_none p q qs (λ j l. f (suc j) (omega arith) (omega arith)))

@@ -88,7 +88,8 @@ module _ (x : Range) (o : x.offset ≤ top) where
       rw (joins_end r x o (omega arith))
       (cases (eqb (r.offset + r.len) x.offset) (λ t. simp t) (λ t. simp (t, e)))
 
-  next_to : (b : ℕ) (r : Range) (xs : List Range) (cap : ℕ) → b + (r.len + total xs) ≡ cap → cap + x.len ≤ top → runs_from b (joined_to r (xs ++ (x ∷ []))) ≡ extended_runs (runs_from b (joined_to r xs)) cap x.offset x.len
+  next_to : (b : ℕ) (r : Range) (xs : List Range) (cap : ℕ) → b + (r.len + total xs) ≡ cap → cap + x.len ≤ top → runs_from b
+      (joined_to r (xs ++ (x ∷ []))) ≡ extended_runs (runs_from b (joined_to r xs)) cap x.offset x.len
   unfolding joined_to runs_from sum
   next_to b r [] cap c h = next_one b r cap (omega arith) h
   next_to b r (y ∷ ys) cap c h =

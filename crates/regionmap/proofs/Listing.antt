@@ -94,6 +94,7 @@ module _ (m : RegionMap) (ss fs out₀ : List ℕ) where
   pub list_refused : runs_fail m ss fs out₀ ≡ true → Written m ss fs out₀ out₀ (refused 1)
   list_refused e = record { answer = sym (one_fails 1 _ _ (omega arith) e); slots = simp e }
 
-  pub list_written : runs_fail m ss fs out₀ ≡ false → Enough m ss fs → (out : List ℕ) → out ≡ written (flat (ranges_of (placement_of m ss fs).runs)) out₀ → Written m ss fs out₀ out (accepted (m.count + 1))
+  pub list_written : runs_fail m ss fs out₀ ≡ false → Enough m ss fs → (out : List ℕ) → out ≡ written (flat (ranges_of (placement_of m ss fs).runs))
+      out₀ → Written m ss fs out₀ out (accepted (m.count + 1))
   list_written f e out w =
       record { answer = ap accepted (sym (runs_count m ss fs e.starts e.files)) ∙ sym (one_passes 1 _ _ f); slots = simp f w }

@@ -126,7 +126,8 @@ module _ (m : RegionMap) (ss fs : List ℕ) (v : Valid m ss fs) where
         let f = found_run 0 g in
         omega (arith, in_file 0 g u, ap (λ (r : Run). r.start) f, ap (λ (r : Run). r.file) f, first_start, first_file)
 
-    pub found_later : (k : ℕ) → k < m.count → Found ss m.count p (suc k) → p ≤ (run_of (runs m ss fs) p).start + (run_of (runs m ss fs) p).len → byte_at (placement_of m ss fs) p ≡ stop (get_or fs k 0 + (p - get_or ss k 0))
+    pub found_later : (k : ℕ) → k < m.count → Found ss m.count p (suc k) → p ≤ (run_of (runs m ss fs) p).start + (run_of (runs m ss fs) p).len →
+        byte_at (placement_of m ss fs) p ≡ stop (get_or fs k 0 + (p - get_or ss k 0))
     found_later k h g u =
         let f = found_run (suc k) g in
         omega (arith, in_file (suc k) g u, ap (λ (r : Run). r.start) f, ap (λ (r : Run). r.file) f, later_start k h, later_file k h)

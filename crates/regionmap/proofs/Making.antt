@@ -47,7 +47,8 @@ module _ (xs : List ℕ) (len : ℕ) (ss fs : List ℕ) where
 
 -- ---- the runs of extents, as a record and its lists have them
 
-means_first : (rs : List Run) (cap : ℕ) → EndToEnd 0 rs cap → runs_to cap 0 (get_or (with_first rs) 0 blank_run).file (map (λ (r : Run). r.start) (drop 1 rs)) (map (λ (r : Run). r.file) (drop 1 rs)) ≡ with_first rs
+means_first : (rs : List Run) (cap : ℕ) → EndToEnd 0 rs cap → runs_to cap 0 (get_or (with_first rs) 0 blank_run).file
+    (map (λ (r : Run). r.start) (drop 1 rs)) (map (λ (r : Run). r.file) (drop 1 rs)) ≡ with_first rs
 unfolding runs_to
 means_first [] cap e = let d : cap - 0 ≡ 0 = omega (arith, e) in rw d
 means_first (r ∷ rs) cap e =

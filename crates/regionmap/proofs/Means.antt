@@ -20,7 +20,8 @@ means_length cap s f (t ∷ ts) [] e = absurd (omega arith)
 means_length cap s f (t ∷ ts) (g ∷ gs) e = let i = means_length cap t g ts gs (omega arith) in omega arith
 
 -- where run k starts, in the data and in the file
-pub means_at : (cap s f : ℕ) (ts gs : List ℕ) (k : ℕ) → length ts ≡ length gs → k ≤ length ts → ((at (runs_to cap s f ts gs) k).start ≡ get_or (s ∷ ts) k 0) × ((at (runs_to cap s f ts gs) k).file ≡ get_or (f ∷ gs) k 0)
+pub means_at : (cap s f : ℕ) (ts gs : List ℕ) (k : ℕ) → length ts ≡ length gs → k ≤ length ts →
+    ((at (runs_to cap s f ts gs) k).start ≡ get_or (s ∷ ts) k 0) × ((at (runs_to cap s f ts gs) k).file ≡ get_or (f ∷ gs) k 0)
 unfolding runs_to
 means_at cap s f [] gs zero e h = (refl, refl)
 means_at cap s f [] gs (suc k) e h = absurd (omega arith)
@@ -84,7 +85,8 @@ pub end_first : (cap f : ℕ) (ss fs : List ℕ) → file_end (runs_to cap 0 f (
 unfolding runs_to file_end
 end_first cap f ss fs = omega arith
 
-pub end_later : (cap f count : ℕ) (ss fs : List ℕ) → 0 < count → count ≤ length ss → count ≤ length fs → file_end (runs_to cap 0 f (take count ss) (take count fs)) ≡ get_or fs (count - 1) 0 + (cap - get_or ss (count - 1) 0)
+pub end_later : (cap f count : ℕ) (ss fs : List ℕ) → 0 < count → count ≤ length ss → count ≤ length fs → file_end
+    (runs_to cap 0 f (take count ss) (take count fs)) ≡ get_or fs (count - 1) 0 + (cap - get_or ss (count - 1) 0)
 end_later cap f zero ss fs p a b = absurd (omega arith)
 end_later cap f (suc k) ss fs p a b =
     let ls = length-take-le (suc k) ss a in

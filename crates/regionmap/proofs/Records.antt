@@ -24,7 +24,8 @@ module _ (m : RegionMap) (n : ℕ) (ss fs : List ℕ) where
   pub room_refused : room_refusal (placement_of m ss fs) n ss fs ≡ 1 → Roomed m n ss fs (Err Lists)
   room_refused e = record { answer = refuses Lists _ (with_room (placement_of m ss fs) n) ss fs (sym e); valid = λ v. tt }
 
-  pub room_given : room_refusal (placement_of m ss fs) n ss fs ≡ 0 → n ≤ limit → (k : ℕ) → k ≡ max m.room n → Roomed m n ss fs (Ok (record { first = m.first; len = m.len; capacity = m.capacity; count = m.count; room = k }))
+  pub room_given : room_refusal (placement_of m ss fs) n ss fs ≡ 0 → n ≤ limit → (k : ℕ) → k ≡ max m.room n → Roomed m n ss fs
+      (Ok (record { first = m.first; len = m.len; capacity = m.capacity; count = m.count; room = k }))
   room_given e l k h =
       record {
         answer = accepts _ _ (with_room (placement_of m ss fs) n) e (rw h);

@@ -84,7 +84,8 @@ module _ (r : Run) (qs : List Run) (p k : ℕ) (g : Found (map (λ (q : Run). q.
 
   -- and only the first may start above it
   first_alone : p < (at k).start → k ≡ 0
-  first_alone s = by_eq k 0 (λ e. e) (λ d. let b = g.below (omega (arith, d)) in let e : suc (k - 1) ≡ k = omega (arith, d) in absurd (omega (arith, b, s, start_at (k - 1) (omega (arith, d, g.inside)), ap (λ (j : ℕ). (at j).start) e)))
+  first_alone s = by_eq k 0 (λ e. e) (λ d. let b = g.below (omega (arith, d)) in let e : suc (k - 1) ≡ k = omega (arith, d) in absurd
+      (omega (arith, b, s, start_at (k - 1) (omega (arith, d, g.inside)), ap (λ (j : ℕ). (at j).start) e)))
 
   pub none_read : p < (at k).start → RunFor (r ∷ qs) p blank_run
   none_read s =
@@ -138,7 +139,8 @@ module _ (rs : List Run) (len p n : ℕ) where
       among_fits c h = let d : p + n - r.start ≤ in_file r = ltb-false _ _ c in omega (arith, h, d, f.from)
 
 -- in whatever order, a byte that is told is that of a run which holds the whole range, below the data's end
-pub told_inside : (rs : List Run) (len p n : ℕ) (c : Result ℕ Refusal) (a : AnsweredAmong rs len p n c) (b : ℕ) → told c ≡ accepted b → (b ≡ run_byte a.run p) × (p + n ≤ a.run.start + in_file a.run) × (p + n ≤ len)
+pub told_inside : (rs : List Run) (len p n : ℕ) (c : Result ℕ Refusal) (a : AnsweredAmong rs len p n c) (b : ℕ) → told c ≡ accepted b →
+    (b ≡ run_byte a.run p) × (p + n ≤ a.run.start + in_file a.run) × (p + n ≤ len)
 unfolding among_refusal
 told_inside rs len p n c a b e =
     let t = accepted_is _ _ _ (sym a.answer ∙ e) in

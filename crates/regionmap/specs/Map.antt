@@ -211,7 +211,8 @@ pub record Answered (m : RegionMap) (p n : ℕ) (ss fs : List ℕ) (r : Result �
 abbrev pub ranges_of : List Run → List Range
 ranges_of rs = map (λ (r : Run). range r.file r.len) rs
 
--- 1. too few places for a map's runs after the first, or for all its runs in the list that is written
+-- 1. too few places for a map's runs after the first, a record of more runs than its room, or too few places for all
+-- its runs in the list that is written
 unfoldable pub runs_fail : RegionMap → List ℕ → List ℕ → List ℕ → Bool
 runs_fail m ss fs out = too_few m.room ss fs || ltb m.room m.count || ltb (length (pairs out)) (m.count + 1)
 

@@ -112,7 +112,8 @@ two_of_total (y ∷ z ∷ ys) zero h = omega arith
 two_of_total (y ∷ z ∷ ys) (suc i) h = let k = two_of_total (z ∷ ys) i (le_of_suc-le-suc h) in omega arith
 
 -- a run by the range that it is made of
-pub from_at : (b : ℕ) (ys : List Range) (i : ℕ) → i < length ys → ((get_or (runs_from b ys) i blank_run).file ≡ (get_or ys i blank).offset) × ((get_or (runs_from b ys) i blank_run).len ≡ (get_or ys i blank).len)
+pub from_at : (b : ℕ) (ys : List Range) (i : ℕ) → i < length ys → ((get_or (runs_from b ys) i blank_run).file ≡ (get_or ys i blank).offset) ×
+    ((get_or (runs_from b ys) i blank_run).len ≡ (get_or ys i blank).len)
 unfolding runs_from
 from_at b [] i h = absurd (not-suc-le-zero h)
 from_at b (y ∷ ys) zero h = (refl, refl)
@@ -150,7 +151,8 @@ runs_some xs i h =
     let s = all_at (λ (x : Range). 0 < x.len) ys i blank (some_joined (not_empty xs) (some_not_empty xs)) k in
     omega (arith, m.1, s)
 
-pub runs_no_touch : (xs : List Range) → Ends xs → total xs ≤ top → (i : ℕ) → suc i < length (runs_of xs) → (get_or (runs_of xs) i blank_run).file + (get_or (runs_of xs) i blank_run).len ≡ (get_or (runs_of xs) (suc i) blank_run).file → ⊥
+pub runs_no_touch : (xs : List Range) → Ends xs → total xs ≤ top → (i : ℕ) → suc i < length (runs_of xs) → (get_or (runs_of xs) i blank_run).file +
+    (get_or (runs_of xs) i blank_run).len ≡ (get_or (runs_of xs) (suc i) blank_run).file → ⊥
 runs_no_touch xs a w i h e =
     let ys = joined (not_empty xs) in
     let k : suc i < length ys = subst (λ (n : ℕ). suc i < n) (from_length 0 ys) h in

@@ -76,7 +76,8 @@ module _ (b : ℕ) (r : Reading) (out : List ℕ) (in-out : r.count ≤ length o
   unfolding numbers_from
   digit v e q = record { long = refl; inside = in-out; slots = λ bs. simp e (rw q); count = λ bs. simp e (rw q) }
 
-  pub no_digit : (q : Reading) (out' : List ℕ) → is_digit b ≡ false → out' ≡ fill out r.count (finished r.begun) → q.count ≡ min (r.count + length (finished r.begun)) (length out) → q.begun ≡ None → Reads b r out q out'
+  pub no_digit : (q : Reading) (out' : List ℕ) → is_digit b ≡ false → out' ≡ fill out r.count (finished r.begun) → q.count ≡ min
+      (r.count + length (finished r.begun)) (length out) → q.begun ≡ None → Reads b r out q out'
   unfolding numbers_from
   no_digit q out' e s n z =
       let l : length out' ≡ length out = ap length s ∙ length_fill (finished r.begun) out r.count in

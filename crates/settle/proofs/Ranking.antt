@@ -230,7 +230,8 @@ module _ (a b : List ℕ) (u : ℕ) (k₀ k₁ k₂ : List ℕ) (e : u ≡ lengt
   both_at j h =
       let l = length-append a b in
       by_lt j u
-      (λ i. g.old j i ∙ ap (λ (n : ℕ). get_or (pairs k₁) n blank) (omega arith) ∙ f.new j (omega arith) ∙ ap (λ (n : ℕ). range (get_or a j 0) n) (omega arith) ∙ ap (λ (n : ℕ). range n j) (sym (get_or-append a b 0 j (omega arith))))
+      (λ i. g.old j i ∙ ap (λ (n : ℕ). get_or (pairs k₁) n blank) (omega arith) ∙ f.new j (omega arith) ∙ ap (λ (n : ℕ). range (get_or a j 0) n)
+      (omega arith) ∙ ap (λ (n : ℕ). range n j) (sym (get_or-append a b 0 j (omega arith))))
       (λ i.
       let d : j ≡ length a + (j - u) = omega arith in
       let q : get_or (a ++ b) j 0 ≡ get_or b (j - u) 0 = ap (λ (n : ℕ). get_or (a ++ b) n 0) d ∙ get_or-append-add a b (j - u) 0 in

@@ -39,7 +39,7 @@ renamed us un r =
     || ltb 1 (length (keep (λ (q : Region). eqb q.seq (highest (namesakes us un r))) (namesakes us un r)))
 
 -- A mark as a number: 1 for overlapped, 2 for renamed, 4 for superseded. `mark_at` (proofs/Marking) says which mark stands at
--- a place, `marks_none` and `none_marks` (proofs/Unmarked) when all are 0.
+-- a place, `marks_none` and `none_marks` (proofs/Unmarked) when all are 0, with no unavailable regions.
 abbrev pub mark_of : Bool → Bool → Bool → ℕ
 mark_of o r s = cond o 1 0 + cond r 2 0 + cond s 4 0
 

@@ -31,7 +31,7 @@ pub fn send<W: Write>(writer: &mut W, text: &[u8]) -> io::Result<()>
     Err(Error::from(ErrorKind::Interrupted))
 }
 
-// Reads some bytes; none only at the end.
+// Reads some bytes; none only at the end, or into an empty block.
 pub fn receive<R: Read>(reader: &mut R, block: &mut [u8]) -> io::Result<usize>
     ensures bound { ReadsAtMost result block.new }
     ensures bytes { ReadConsumes (R.remaining reader.old) (R.remaining reader.new) result block.new }

@@ -52,7 +52,7 @@ impl TagSpace {
         }
     }
 
-    // The row with one usage more. This and the next three are document 01's rules, each by itself.
+    // The row with one usage more. This and those that follow are document 01's rules, each by itself.
     pub fn add_usage(mut self, logical: u64, physical: u64) -> TagSpace
         ensures { result ≡ add_usage logical physical self }
     {

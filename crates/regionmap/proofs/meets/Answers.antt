@@ -10,4 +10,5 @@ pub returns-then-file-at : goal.returns-then-file-at
 returns-then-file-at c = let a = c.args in sym (ne_eqb (a.at + a.len) _ (λ e. absurd (omega (arith, c.if-file-at.true))))
 
 pub returns : goal.returns
-returns c = let a = c.args in by_eq (a.at + a.len) _ (λ e. eq-eqb (a.file - a.at) _ (omega (arith, c.if-file-at.false, e)) ∙ sym (eq-eqb _ _ e)) (λ d. ne_eqb (a.file - a.at) _ (λ e. d (omega (arith, c.if-file-at.false, e))) ∙ sym (ne_eqb _ _ d))
+returns c = let a = c.args in by_eq (a.at + a.len) _ (λ e. eq-eqb (a.file - a.at) _ (omega (arith, c.if-file-at.false, e)) ∙ sym (eq-eqb _ _ e))
+    (λ d. ne_eqb (a.file - a.at) _ (λ e. d (omega (arith, c.if-file-at.false, e))) ∙ sym (ne_eqb _ _ d))

@@ -15,4 +15,5 @@ pub returns-then-starts-n : goal.returns-then-starts-n
 returns-then-starts-n c = let k = c.in_ok-pairs.ensures in runs_refused (short_fails _ _ _ _ _ (ap length (sym k.1) ∙ length_ranges _) k.0 c.then-starts-n.either)
 
 pub returns : goal.returns
-returns c = let k = c.in_ok-pairs.ensures in runs_accepted (enough _ _ _ _ _ (ap length (sym k.1) ∙ length_ranges _) k.0 c.if-starts-n.false c.if-files-n.false c.if-lens-n.false) (rw (sym k.1) c.join.ensures)
+returns c = let k = c.in_ok-pairs.ensures in runs_accepted (enough _ _ _ _ _ (ap length (sym k.1) ∙ length_ranges _) k.0 c.if-starts-n.false
+    c.if-files-n.false c.if-lens-n.false) (rw (sym k.1) c.join.ensures)

@@ -25,4 +25,5 @@ pub bounds-starts-count : goal.bounds-starts-count
 bounds-starts-count c = let h = c.requires in omega (arith, c.if-count-eq0.false, h.0, h.1)
 
 pub returns : goal.returns
-returns c = let a = c.args in let h = c.requires in let p : 0 < a.self.count = omega (arith, c.if-count-eq0.false) in c.meets-2.ensures ∙ ap (λ (e : ℕ). eqb e a.file) (rw c.saturating_sub.ensures (sym (end_later _ _ _ _ _ p h.0 h.1)))
+returns c = let a = c.args in let h = c.requires in let p : 0 < a.self.count = omega (arith, c.if-count-eq0.false) in c.meets-2.ensures ∙ ap
+    (λ (e : ℕ). eqb e a.file) (rw c.saturating_sub.ensures (sym (end_later _ _ _ _ _ p h.0 h.1)))

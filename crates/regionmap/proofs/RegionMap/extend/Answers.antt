@@ -38,11 +38,15 @@ pub returns-then-lists_fail : goal.returns-then-lists_fail
 returns-then-lists_fail c = let a = c.args in extend_refused _ _ _ _ _ Lists (λ v. extend_few (placement_of a.self _ _) _ _ _ _ (lists-fail _ _ _ v (sym c.lists_fail.ensures ∙ c.if-lists_fail.true)))
 
 pub returns-then-n-eq0 : goal.returns-then-n-eq0
-returns-then-n-eq0 c = let a = c.args in extend_refused a.self a.file _ _ _ Outside (λ v. extend_outside (placement_of a.self _ _) _ _ _ _ (enough (goal.at.returns-then-n-eq0 c).Else-lists_fail).places (simp (eq-eqb _ _ c.if-n-eq0.true)))
+returns-then-n-eq0 c = let a = c.args in extend_refused a.self a.file _ _ _ Outside
+    (λ v. extend_outside (placement_of a.self _ _) _ _ _ _ (enough (goal.at.returns-then-n-eq0 c).Else-lists_fail).places
+    (simp (eq-eqb _ _ c.if-n-eq0.true)))
 
 pub returns-then-passes : goal.returns-then-passes
 unfolding passes_top
-returns-then-passes c = let a = c.args in extend_refused a.self a.file _ _ _ Outside (λ v. extend_outside (placement_of a.self _ _) _ _ _ _ (enough (goal.at.returns-then-passes c).Else-lists_fail).places (simp (ne_eqb _ _ c.if-n-eq0.false, sym c.passes.ensures ∙ c.if-passes.true)))
+returns-then-passes c = let a = c.args in extend_refused a.self a.file _ _ _ Outside
+    (λ v. extend_outside (placement_of a.self _ _) _ _ _ _ (enough (goal.at.returns-then-passes c).Else-lists_fail).places
+    (simp (ne_eqb _ _ c.if-n-eq0.false, sym c.passes.ensures ∙ c.if-passes.true)))
 
 pub returns-in_err-capacity : goal.returns-in_err-capacity
 returns-in_err-capacity c =
@@ -65,7 +69,10 @@ returns-then-ends_at c =
     (whole (goal.at.returns-then-ends_at c).In_ok-capacity) (sym c.ends_at.ensures ∙ c.if-ends_at.true))
 
 pub returns-then-count-self : goal.returns-then-count-self
-returns-then-count-self c = let a = c.args in extend_refused a.self a.file _ _ _ Full (λ v. extend_full (placement_of a.self _ _) _ _ _ _ (enough (goal.at.returns-then-count-self c).Else-lists_fail).places (below (goal.at.returns-then-count-self c).Else-passes) (sums (goal.at.returns-then-count-self c).In_ok-capacity).fits (sym c.ends_at.ensures ∙ c.if-ends_at.false) (omega (arith, runs_length _ _ _ v, c.if-count-self.true)))
+returns-then-count-self c = let a = c.args in extend_refused a.self a.file _ _ _ Full
+    (λ v. extend_full (placement_of a.self _ _) _ _ _ _ (enough (goal.at.returns-then-count-self c).Else-lists_fail).places
+    (below (goal.at.returns-then-count-self c).Else-passes) (sums (goal.at.returns-then-count-self c).In_ok-capacity).fits
+    (sym c.ends_at.ensures ∙ c.if-ends_at.false) (omega (arith, runs_length _ _ _ v, c.if-count-self.true)))
 
 pub offset_bounds-starts-count : goal.offset_bounds-starts-count
 offset_bounds-starts-count c = let e = enough (goal.at.offset_bounds-starts-count c).Else-lists_fail in omega (arith, e.room, e.wide.0, e.wide.1, c.if-count-self.false)

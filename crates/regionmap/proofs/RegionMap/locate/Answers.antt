@@ -37,7 +37,10 @@ pub returns-then-lists_fail : goal.returns-then-lists_fail
 returns-then-lists_fail c = let a = c.args in record { answer = λ v. locate_few (placement_of a.self _ _) _ _ _ _ (lists-fail _ _ _ v (sym c.lists_fail.ensures ∙ c.if-lists_fail.true)) }
 
 pub returns-then-passes : goal.returns-then-passes
-returns-then-passes c = let a = c.args in record { answer = λ v. locate_past (placement_of a.self a.starts.now a.files.now) _ _ _ _ (enough (goal.at.returns-then-passes c).Else-lists_fail).places (sym c.passes.ensures ∙ c.if-passes.true) }
+returns-then-passes c = let a = c.args in record {
+  answer = λ v. locate_past (placement_of a.self a.starts.now a.files.now) _ _ _ _
+      (enough (goal.at.returns-then-passes c).Else-lists_fail).places (sym c.passes.ensures ∙ c.if-passes.true);
+}
 
 pub find-k-requires : goal.find-k-requires
 find-k-requires c = (enough (goal.at.find-k-requires c).Else-lists_fail).starts
@@ -46,10 +49,21 @@ pub run_end-requires : goal.run_end-requires
 run_end-requires c = (enough (goal.at.run_end-requires c).Else-lists_fail).starts
 
 pub returns-then-passes-2 : goal.returns-then-passes-2
-returns-then-passes-2 c = let a = c.args in record { answer = λ v. locate_across (placement_of a.self a.starts.now a.files.now) a.pos a.n a.starts.now a.files.now (enough (goal.at.returns-then-passes-2 c).Else-lists_fail).places (in_data (goal.at.returns-then-passes-2 c).Else-passes) (crosses (goal.at.returns-then-passes-2 c).After-passes-2 v ∙ c.if-passes-2.true) }
+returns-then-passes-2 c = let a = c.args in record {
+  answer = λ v. locate_across (placement_of a.self a.starts.now a.files.now) a.pos a.n a.starts.now
+      a.files.now (enough (goal.at.returns-then-passes-2 c).Else-lists_fail).places (in_data (goal.at.returns-then-passes-2 c).Else-passes)
+      (crosses (goal.at.returns-then-passes-2 c).After-passes-2 v ∙ c.if-passes-2.true);
+}
 
 pub returns-then-k-eq0 : goal.returns-then-k-eq0
-returns-then-k-eq0 c = let a = c.args in record { answer = λ v. rw c.saturating_add.ensures (locate_at (placement_of a.self a.starts.now a.files.now) a.pos a.n a.starts.now a.files.now (enough (goal.at.returns-then-k-eq0 c).Else-lists_fail).places (in_data (goal.at.returns-then-k-eq0 c).Else-passes) (crosses (goal.at.returns-then-k-eq0 c).After-passes-2 v ∙ c.if-passes-2.false) _ (found_first a.self a.starts.now a.files.now v _ (subst (Found _ _ _) c.if-k-eq0.true c.find-k.ensures) (within _ _ _ (crosses (goal.at.returns-then-k-eq0 c).After-passes-2 v ∙ c.if-passes-2.false)))) }
+returns-then-k-eq0 c = let a = c.args in record {
+  answer = λ v. rw c.saturating_add.ensures
+      (locate_at (placement_of a.self a.starts.now a.files.now) a.pos a.n a.starts.now a.files.now
+      (enough (goal.at.returns-then-k-eq0 c).Else-lists_fail).places (in_data (goal.at.returns-then-k-eq0 c).Else-passes)
+      (crosses (goal.at.returns-then-k-eq0 c).After-passes-2 v ∙ c.if-passes-2.false) _
+      (found_first a.self a.starts.now a.files.now v _ (subst (Found _ _ _) c.if-k-eq0.true c.find-k.ensures)
+      (within _ _ _ (crosses (goal.at.returns-then-k-eq0 c).After-passes-2 v ∙ c.if-passes-2.false))));
+}
 
 pub overflow_sub-k : goal.overflow_sub-k
 overflow_sub-k c = let e = enough (goal.at.overflow_sub-k c).Else-lists_fail in omega (arith, e.starts, e.files, c.find-k.ensures.inside, c.if-k-eq0.false)
@@ -73,4 +87,11 @@ pub overflow_sub-pos : goal.overflow_sub-pos
 overflow_sub-pos c = c.find-k.ensures.below (omega (arith, c.if-k-eq0.false))
 
 pub returns : goal.returns
-returns c = let a = c.args in record { answer = λ v. rw c.saturating_add-2.ensures (locate_at (placement_of a.self a.starts.now a.files.now) a.pos a.n a.starts.now a.files.now (enough (goal.at.returns c).Else-lists_fail).places (in_data (goal.at.returns c).Else-passes) (crosses (goal.at.returns c).After-passes-2 v ∙ c.if-passes-2.false) _ (found_later a.self a.starts.now a.files.now v _ _ (omega (arith, c.find-k.ensures.inside, c.if-k-eq0.false)) (subst (Found _ _ _) (one_less _ c.if-k-eq0.false) c.find-k.ensures) (within _ _ _ (crosses (goal.at.returns c).After-passes-2 v ∙ c.if-passes-2.false)))) }
+returns c = let a = c.args in record {
+  answer = λ v. rw c.saturating_add-2.ensures
+      (locate_at (placement_of a.self a.starts.now a.files.now) a.pos a.n a.starts.now a.files.now (enough (goal.at.returns c).Else-lists_fail).places
+      (in_data (goal.at.returns c).Else-passes) (crosses (goal.at.returns c).After-passes-2 v ∙ c.if-passes-2.false) _
+      (found_later a.self a.starts.now a.files.now v _ _ (omega (arith, c.find-k.ensures.inside, c.if-k-eq0.false))
+      (subst (Found _ _ _) (one_less _ c.if-k-eq0.false) c.find-k.ensures) (within _ _ _
+      (crosses (goal.at.returns c).After-passes-2 v ∙ c.if-passes-2.false))));
+}

@@ -25,11 +25,14 @@ returns-then-lists_fail c = let a = c.args in list_refused _ _ _ _ (simp (sym c.
 
 pub returns-then-out-self : goal.returns-then-out-self
 unfolding runs_fail too_few
-returns-then-out-self c = let a = c.args in let l = length_pairs a.out.now in let h : length (pairs a.out.now) < a.self.count + 1 = omega (arith, c.if-out-self.true) in list_refused _ _ _ _ (simp (sym c.lists_fail.ensures ∙ c.if-lists_fail.false, lt-ltb _ _ h))
+returns-then-out-self c = let a = c.args in let l = length_pairs a.out.now in let h : length (pairs a.out.now) < a.self.count + 1 = omega
+    (arith, c.if-out-self.true) in list_refused _ _ _ _ (simp (sym c.lists_fail.ensures ∙ c.if-lists_fail.false, lt-ltb _ _ h))
 
 pub list_runs-requires : goal.list_runs-requires
 list_runs-requires c = let e = enough (goal.at.list_runs-requires c).Else-lists_fail in let r = room (goal.at.list_runs-requires c).Else-out-self in (e.starts, e.files, omega arith)
 
 pub returns : goal.returns
 unfolding runs_fail too_few
-returns c = let a = c.args in list_written a.self a.starts.now a.files.now _ (simp (sym c.lists_fail.ensures ∙ c.if-lists_fail.false, le-ltb _ _ (room (goal.at.returns c).Else-out-self))) (enough (goal.at.returns c).Else-lists_fail) _ c.list_runs.ensures
+returns c = let a = c.args in list_written a.self a.starts.now a.files.now _ (simp
+    (sym c.lists_fail.ensures ∙ c.if-lists_fail.false, le-ltb _ _ (room (goal.at.returns c).Else-out-self)))
+    (enough (goal.at.returns c).Else-lists_fail) _ c.list_runs.ensures

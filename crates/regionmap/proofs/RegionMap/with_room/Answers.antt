@@ -16,4 +16,9 @@ returns-then-too_few c = let a = c.args in room_refused _ _ _ _ (simp (le-ltb _ 
 
 pub returns : goal.returns
 unfolding room_refusal too_few refuse
-returns c = let a = c.args in room_given _ _ _ _ (simp (le-ltb _ _ c.if-room-gt-MOST.false, sym c.max-most.ensures, sym c.too_few.ensures ∙ c.if-too_few.false)) c.if-room-gt-MOST.false _ c.max-most.ensures
+returns c = let a = c.args in room_given _ _ _ _ (simp (
+  le-ltb _ _ c.if-room-gt-MOST.false,
+  sym c.max-most.ensures,
+  sym c.too_few.ensures ∙
+      c.if-too_few.false,
+)) c.if-room-gt-MOST.false _ c.max-most.ensures

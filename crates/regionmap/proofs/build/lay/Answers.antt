@@ -24,7 +24,8 @@ pub overflow_add-at : goal.overflow_add-at
 overflow_add-at c = let h = build_sum c.loop-file.invariant (omega (arith, length_ranges c.args.extents.now)) (chunk_at c.args.extents.now c.loop-file.file-index) in omega (arith, h)
 
 pub overflow_add-end-then-file-end : goal.overflow_add-end-then-file-end
-overflow_add-end-then-file-end c = let h = build_byte c.loop-file.invariant (omega (arith, length_ranges c.args.extents.now)) (chunk_at c.args.extents.now c.loop-file.file-index) in omega (arith, h, c.if-file-end.true)
+overflow_add-end-then-file-end c = let h = build_byte c.loop-file.invariant (omega (arith, length_ranges c.args.extents.now))
+    (chunk_at c.args.extents.now c.loop-file.file-index) in omega (arith, h, c.if-file-end.true)
 
 pub loop-file-preserved-then-file-end : goal.loop-file-preserved-then-file-end
 loop-file-preserved-then-file-end c =
