@@ -51,7 +51,7 @@ of_tag tag (u ∷ us) = cond (eqb u.tag tag) (u ∷ of_tag tag us) (of_tag tag u
 abbrev pub no_tags : Table
 no_tags = record { rows = []; total = 0 }
 
--- 1. Lists of different lengths.
+-- 1. "A lent slice is too short": of three lists that are lent together, each has the length of the others.
 unfoldable pub differ : List ℕ → List ℕ → List ℕ → Bool
 differ xs ys zs = not (eqb (length xs) (length ys)) || not (eqb (length xs) (length zs))
 

@@ -63,6 +63,7 @@ with_total n t = record { rows = t.rows; total = n }
 unfoldable pub reserving : ℕ → ℕ → Table → Table
 reserving tag bytes t = with_total (stop (t.total + bytes)) (on_row tag (reserve bytes) t)
 
+-- And are taken from both again, down to 0.
 unfoldable pub unreserving : ℕ → ℕ → Table → Table
 unreserving tag bytes t = with_total (t.total - bytes) (on_row tag (unreserve bytes) t)
 

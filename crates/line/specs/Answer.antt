@@ -11,7 +11,7 @@ answer_text l = codes "refusal=" ++ decimal l.refusal ++ codes " at=" ++ decimal
 unfoldable pub over : ℕ → List ℕ → List ℕ → List ℕ
 over at text s = take at s ++ text ++ drop (at + length text) s
 
--- It is written where it fits, and ends at the place that is answered.
+-- A text is written where it fits, and ends at the place that is answered.
 pub record Put (at : ℕ) (text s t : List ℕ) (end : ℕ) : Type 0 where
   pub slots : t ≡ cond (leb (at + length text) (length s)) (over at text s) s
   pub place : end ≡ cond (leb (at + length text) (length s)) (at + length text) at

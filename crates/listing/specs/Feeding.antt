@@ -83,7 +83,7 @@ pub record Front (l : Listing) (block out₀ : List ℕ) (m : Listing) (out : Li
   pub upto : text ≤ length out
   pub behind : drop text out ≡ drop text out₀
 
--- All of it, but where there may be no room for another answer.
+-- A whole block is answered, but where there may be no room for another answer.
 pub record Fills (l : Listing) (block out₀ : List ℕ) (m : Listing) (out : List ℕ) (r : Filled) : Type 0 where
   pub front : Front l block out₀ m out r.bytes r.text
   pub all : 105 ≤ length out - r.text → r.bytes ≡ length block

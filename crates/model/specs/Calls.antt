@@ -151,11 +151,13 @@ publish_tests w id len =
 abbrev pub published_to : ℕ → Region → Region
 published_to len r = with_data r.extents (max r.published len) r.span-start r.span-end r
 
+-- The world with the region published to len.
 abbrev pub published_at : World → (id len : ℕ) → World
 published_at w id len = with_regions w (on_region id (published_to len) w.regions)
 
 -- ---- drop and cap
 
+-- 16. "The region is unknown."
 abbrev pub drop_tests : World → ℕ → List ℕ
 drop_tests w id = refuse 16 (not (known w id)) ∷ []
 
@@ -163,6 +165,7 @@ drop_tests w id = refuse 16 (not (known w id)) ∷ []
 abbrev pub dropped : World → ℕ → World
 dropped w id = with_regions w (without id w.regions)
 
+-- 19. "A .. 97th tag".
 abbrev pub cap_tests : World → ℕ → List ℕ
 cap_tests w tag = refuse 19 (tag_full w tag) ∷ []
 

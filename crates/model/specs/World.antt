@@ -62,6 +62,7 @@ physical w tag = sum (map (footprint_len w.limits) (of_tag tag w.regions))
 abbrev pub logical : World → ℕ → ℕ
 logical w tag = sum (map (λ (r : Region). r.published) (of_tag tag w.regions))
 
+-- A tag has a row, as "every call on a tag .. makes" one "for an unknown one".
 unfoldable pub has_row : World → ℕ → Bool
 has_row w tag = has_key tag_of tag w.rows
 

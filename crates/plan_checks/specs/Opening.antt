@@ -12,7 +12,7 @@ records_of rs = map record_of rs
 abbrev pub numbers_of : List Record → List ℕ
 numbers_of rs = map (λ (r : model.Record). r.number) (records_of rs)
 
--- How many numbers of scratch are lent, and how many regions the lists have room for that are lent for the plan, are numbers.
+-- Of the lent scratch and the plan's lists only the numbers of their places are told.
 abbrev pub opening_of : Limits → List Record → (listed : List ℕ) → (scratch places : ℕ) → model.Opening
 opening_of lim rs listed scratch places =
     record { limits = lim; records = records_of rs; extents = listed; scratch = scratch; places = places }

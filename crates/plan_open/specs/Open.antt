@@ -11,7 +11,7 @@ use Rattle.numbers.specs.declared.refusal.Refusal.{Refusal}
 use Rattle.plan_checks.specs.Opening as checked
 use Rattle.plan_checks.specs.declared.container.Opening as container
 
--- How many rows of 60 places there are in each of three lists.
+-- How many rows of 60 places there are in each of three lists: 01's "places" for regions, of which 1 says "too short".
 abbrev pub least_of : ℕ → ℕ → ℕ → ℕ
 least_of extents starts files = min (extents / 60) (min (starts / 60) (files / 60))
 

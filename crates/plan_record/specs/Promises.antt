@@ -30,9 +30,11 @@ pub record LogicalTold (p : Plan) (tag r : ℕ) : Type 0 where
 pub record PhysicalTold (p : Plan) (tag r : ℕ) : Type 0 where
   pub told : (xs ss fs : List ℕ) → Valid p xs ss fs → r ≡ model.physical (world_of p xs) tag
 
+-- The last number.
 pub record LastTold (p : Plan) (r : ℕ) : Type 0 where
   pub told : (xs : List ℕ) → r ≡ (world_of p xs).last
 
+-- How many regions there are.
 pub record CountTold (p : Plan) (r : ℕ) : Type 0 where
   pub told : (xs : List ℕ) → r ≡ length (world_of p xs).regions
 

@@ -1,4 +1,4 @@
--- The ranges in the order of their starts, and which of them one arrives upon; `settle` promises nothing by these.
+-- The ranges in the order of their starts, and which of them a later one strikes; `settle` promises nothing by these.
 use Rattle.std.specs.Prelude.{ℕ, ◌+◌, ◌-◌, ◌≤◌, ◌<◌, Bool, true, false, cond, ◌&&◌, ◌||◌, List, [], ◌∷◌, map, reverse, ◌≡◌, ltb, leb, eqb, length, get_or}
 use Rattle.numbers.specs.Lists.{All, any}
 use Rattle.numbers.specs.Range.{Range, blank}
@@ -39,7 +39,7 @@ usable_over ranks u y x = ltb x.owner u && leb (get_or ranks y.owner 0) (get_or 
 abbrev pub own_over : List ℕ → ℕ → Item → Item → Bool
 own_over ranks u y x = leb u x.owner && ltb (get_or ranks y.owner 0) (get_or ranks x.owner 0)
 
--- y of the region i arrives within such an x.
+-- y, a range of the region i, starts within an x that counts.
 abbrev pub struck : (Item → Item → Bool) → ℕ → Item → Item → Bool
 struck counts i y x = eqb y.owner i && counts y x && within y x
 

@@ -9,7 +9,7 @@ ghost use Rattle.settle.specs.Settle.{range_count};
 use crate::complete::Complete;
 use sort::pair::{Pair, pair_at, put_pair};
 
-// The ranges of one record, as the ranges from first on.
+// Lays the ranges of one record from the place first on.
 fn lay(ranges: &[u64], owner: usize, first: usize, n: usize, s: &mut [u64])
     requires { (first + length (pairs ranges.now) ≤ n) × (n + n ≤ length (pairs s.old)) }
     ensures { (seq : ℕ) → Laid (map (piece owner seq) (pairs ranges.now)) first n s.old s.new }
@@ -35,7 +35,7 @@ fn lay(ranges: &[u64], owner: usize, first: usize, n: usize, s: &mut [u64])
     }
 }
 
-// The ranges of all records, whose first one has the place owner, as the ranges from first on.
+// And those of all records, the first of which has the place owner.
 pub(crate) fn lay_all(complete: Complete<'_>, owner: usize, first: usize, n: usize, s: &mut [u64])
     requires { (complete.records.count + owner ≤ 2048) × (first + range_count (lent_of complete.records) ≤ n) × (n + n ≤ length (pairs s.old)) }
     ensures { Laid (pieces_from owner (regions_of (lent_of complete.entry.records))) first n s.old s.new }

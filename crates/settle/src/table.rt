@@ -20,7 +20,7 @@ impl Model for Table {
     ghost invariant = { λ t. Tree t.slots };
 }
 
-// A rank is below 2,048, which each of these asks: a type for that would be made of a number at every call.
+// A rank is below 2,048, which each call on one asks: a type for that would be made of a number at every call.
 impl Table {
     pub(crate) fn none() -> Table
         ensures { result ≡ replicate 6144 0 }

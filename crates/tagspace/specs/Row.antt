@@ -14,6 +14,7 @@ with_usage logical physical r = record { tag = r.tag; logical = logical; physica
 abbrev with_reserved : ℕ → TagSpace → TagSpace
 with_reserved reserved r = record { tag = r.tag; logical = r.logical; physical = r.physical; reserved = reserved; cap = r.cap }
 
+-- The rules of the postings. "Sums stop at 0 and 2^64 - 1."
 abbrev pub add_usage : ℕ → ℕ → TagSpace → TagSpace
 add_usage logical physical r = with_usage (stop (r.logical + logical)) (stop (r.physical + physical)) r
 
@@ -30,6 +31,7 @@ unreserve bytes r = with_reserved (r.reserved - bytes) r
 abbrev pub set_cap : Option ℕ → TagSpace → TagSpace
 set_cap cap r = record { tag = r.tag; logical = r.logical; physical = r.physical; reserved = r.reserved; cap = cap }
 
+-- "no cap, or .. at most the cap"
 unfoldable pub allows : Option ℕ → ℕ → Bool
 allows None n = true
 allows (Some limit) n = leb n limit
