@@ -8,7 +8,7 @@ ghost use Rattle.tagspace.specs.Row.{add_usage, remove_usage, set_cap};
 ghost use Rattle.tagspace.specs.declared.TagSpace.{TagSpace};
 
 use crate::{Accounting, MOST};
-use numbers::{Refusal, advance};
+use numbers::Refusal;
 use tagspace::TagSpace;
 
 impl Accounting {
@@ -49,7 +49,8 @@ impl Accounting {
         let mut n = self.count;
         while n > 0 {
             let step = n - n / 2;
-            lo = advance(lo, step, self.rows[lo + step - 1].tag <= tag);
+            let up = self.rows[lo + step - 1].tag <= tag;
+            lo += (step << (up as usize)) - step;
             n /= 2;
         }
         lo
