@@ -71,7 +71,8 @@ fn open(random: &mut Random) -> Vec<u8> {
     };
     let len = match random.below(6) {
         0 => number(random, 1 << 24),
-        1 => ((1u64 << 63) - 1 - random.below(3)).to_string(),
+        // up to 2^63 - 1, or past it
+        1 => ((1u64 << 63) - 3 + random.below(6)).to_string(),
         _ => (random.below(1 << 12) << 16).to_string(),
     };
     format!("call=open table_end={table} len={len} log2={log2}").into_bytes()
