@@ -1,4 +1,4 @@
-# Sourced by run, bench and sample: finds what the comparison needs, builds both sides.
+# Sourced by run, bench, growth, through and sample: finds what the comparison needs, builds both sides.
 here=$(cd "$(dirname "${BASH_SOURCE[0]}")" && pwd)
 root=$(dirname "$here")
 modules="align sort footprint regionmap settle freemap accounting plan layout listing"

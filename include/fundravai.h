@@ -3,6 +3,8 @@
  * A container is one object, struct fundravai_container, in your own memory: 135,480 bytes, which is too much
  * for a small stack. The library keeps no state and takes no memory of its own. Open it first, then hand it to
  * each call as the last one left it; what is in it is the library's to write. To start anew, open it again.
+ * Before the first open all its bytes are 0, as of a static object or one from calloc; a call on it finds no region
+ * and no room then, and only a cap is taken. Open overwrites all of it.
  *
  * While a call that may change an object runs, no other runs on it. Calls that only read may run at once, and so
  * may calls on different objects.
@@ -47,7 +49,8 @@ struct fundravai_reply {
 
 enum { FUNDRAVAI_DONE = 0, FUNDRAVAI_AT = 1, FUNDRAVAI_REFUSED = 2 };
 
-/* Why a call is refused. Where several reasons apply, it is the lowest; open's come in its own order. */
+/* Why a call is refused. Where several reasons apply, it is the lowest; at open 1, 2 and 3 are
+ * tested over all records, then 4 to 13 record by record, then 14, then 15. */
 enum fundravai_refusal {
     FUNDRAVAI_LISTS = 1,          /* a list is too short, or a count or a name is over its limit */
     FUNDRAVAI_BLOCK = 2,          /* the block log is not 12 to 16, or a header's is neither that nor 9 */
@@ -76,7 +79,9 @@ enum fundravai_refusal {
 };
 
 /* A region as its table entry and its header have it; those of the header begin with h. Open takes them, and
- * fundravai_region hands them out. */
+ * fundravai_region hands them out. kind is Append, Page or Slot: this library creates Append regions, and of the
+ * others only knows that a Slot does not grow. The span is what the region's blocks lie in. The sequence numbers
+ * rise with each region made; hready says that the header is Ready, that is, written whole. */
 struct fundravai_record {
     uint64_t number;
     uint32_t tag;
@@ -159,7 +164,7 @@ struct fundravai_container {
  * file_len bytes. A recorder that starts an empty container hands over no records; else there are up to 64.
  * listed has the extents of all headers, one record's behind another's, each as two numbers, offset and length.
  * scratch is room to work in, 16 numbers for each extent and each header block of the table entries; what it
- * holds afterwards is not said.
+ * holds afterwards is not said. listed_count and scratch_count count numbers, not pairs.
  * Done, or refused with 1 to 15. */
 struct fundravai_reply fundravai_open(struct fundravai_container *c, uint8_t log2_block, uint64_t table_end,
                                       uint64_t file_len, const struct fundravai_record *records,
@@ -167,7 +172,7 @@ struct fundravai_reply fundravai_open(struct fundravai_container *c, uint8_t log
                                       uint64_t *scratch, size_t scratch_count);
 
 /* Creates an Append region with no extents. Answers the byte of its two header blocks, which stand one behind
- * the other. The name has up to 24 bytes, any of them, and may have none.
+ * the other. The name has up to 24 bytes, of any value, 0 too, and may have none.
  * Refused with 1, 14, 18, 19, 20, 21 or 22. */
 struct fundravai_reply fundravai_create(struct fundravai_container *c, uint64_t number, uint32_t tag,
                                         const uint8_t *name, size_t name_len);
@@ -177,7 +182,7 @@ struct fundravai_reply fundravai_create(struct fundravai_container *c, uint64_t 
  * Refused with 16, 17, 19, 21 or 22. */
 struct fundravai_reply fundravai_grow(struct fundravai_container *c, uint64_t number);
 
-/* Publishes the first len bytes of a region, a multiple of its block. What was published stays so: a lower len
+/* Publishes the first len bytes of a region, a multiple of its header's block, 2^hlog2. What was published stays so: a lower len
  * is done and changes nothing.
  * Refused with 10, 16 or 23. */
 struct fundravai_reply fundravai_publish(struct fundravai_container *c, uint64_t number, uint64_t len);
@@ -192,7 +197,9 @@ struct fundravai_reply fundravai_drop(struct fundravai_container *c, uint64_t nu
 struct fundravai_reply fundravai_cap(struct fundravai_container *c, uint32_t tag, bool capped, uint64_t limit);
 
 /* Answers the byte of the file that holds position pos of a region, where the len bytes from there on are
- * published and lie one behind the other in the file. Changes nothing.
+ * published and lie one behind the other in the file. Changes nothing. With len 0, pos may also be the published
+ * length: the answer is then the byte behind the last published one, which need not be the region's, and byte 0
+ * where it has no extents.
  * Refused with 16, 23 or 24. */
 struct fundravai_reply fundravai_locate(const struct fundravai_container *c, uint64_t number, uint64_t pos,
                                         uint64_t len);

@@ -81,8 +81,12 @@ pub record After (w₀ : World) (cs : List Call) (ns : List (Answer (Option ℕ)
 
 -- ---- the theorem
 
+-- Of open's call: l, q, a and b say how the plan's lists, the records, the listed extents and scratch were lent (specs/Runs); o is
+-- its arguments, s and t scratch before and after, h and k the plan with its lists before and after, r what it answered. Of the list:
+-- cs and ns are the calls and their answers, j what they leave.
 pub record Position : Type 2 where
-  -- the code meets the contracts that the calls are told by
+  -- The code meets the contracts that the calls are told by: a `statement` is the type of a function's own theorem. `Statement`, `Reads`
+  -- and `specs.declared` are made from src/ by the check.
   pub opens : {M : Type 1} → open_code.statement M
   pub creates : {M : Type 1} → create_code.statement M
   pub grows : {M : Type 1} → grow_code.statement M

@@ -1,4 +1,5 @@
--- Lists of calls on a plan, over whatever the contracts of the calls let their caller learn.
+-- Lists of calls on a plan, over whatever the contracts of the calls let their caller learn: `Learnt` of a function's `Reads` is the
+-- facts that its contract gives the caller of one call.
 use Rattle.std.specs.Prelude.{ℕ, List, [], ◌∷◌, Option}
 use base.Fml.{GName, Lft}
 use Rattle.std.specs.Borrow.{Bor, MutBor}
