@@ -167,10 +167,8 @@ fn without_a_plan(n: usize, random: &mut Random) {
     );
 }
 
-/// Calls one after another on n regions, or beside one less.
-fn one_after_another(n: usize, random: &mut Random) {
-    let full = opening(&vec![EXTENTS; n]);
-    let others = opening(&vec![EXTENTS; n - 1]);
+/// Calls on a region that is made and dropped again: with no extents, so many times, and with all extents once.
+fn made() -> (Vec<Call>, Vec<Call>) {
     let id = 1000;
     let create = Call::Create {
         id,
@@ -179,7 +177,36 @@ fn one_after_another(n: usize, random: &mut Random) {
     };
     let grows = vec![Call::Grow { id }; EXTENTS];
     let pairs = vec![[create.clone(), Call::Drop { id }]; 50].concat();
-    let grown = [vec![create], grows, vec![Call::Drop { id }]].concat();
+    (
+        pairs,
+        [vec![create], grows, vec![Call::Drop { id }]].concat(),
+    )
+}
+
+/// Calls that publish more and less of one of n regions.
+fn published(n: usize) -> Vec<Call> {
+    let one = |k: u64| Call::Publish {
+        id: n as u64 / 2,
+        len: k % (EXTENTS as u64 + 1) * BLOCK,
+    };
+    (0..1000).map(one).collect()
+}
+
+/// Calls that locate a byte of one of n regions.
+fn located(n: usize, random: &mut Random) -> Vec<Call> {
+    let mut one = || Call::Locate {
+        id: random.below(n as u64),
+        pos: random.below(EXTENTS as u64 * BLOCK),
+        n: 1,
+    };
+    (0..1000).map(|_| one()).collect()
+}
+
+/// Calls one after another on n regions, or beside one less.
+fn one_after_another(n: usize, random: &mut Random) {
+    let full = opening(&vec![EXTENTS; n]);
+    let others = opening(&vec![EXTENTS; n - 1]);
+    let (pairs, grown) = made();
     row(&format!("  create and drop beside {}", n - 1), |make| {
         each(make, &others, &pairs)
     });
@@ -187,24 +214,13 @@ fn one_after_another(n: usize, random: &mut Random) {
         &format!("  create, 60 grows, drop beside {}", n - 1),
         |make| each(make, &others, &grown),
     );
-    let published: Vec<_> = (0..1000)
-        .map(|k| Call::Publish {
-            id: n as u64 / 2,
-            len: k % (EXTENTS as u64 + 1) * BLOCK,
-        })
-        .collect();
+    let calls = published(n);
     row(&format!("  publish in {n}"), |make| {
-        each(make, &full, &published)
+        each(make, &full, &calls)
     });
-    let located: Vec<_> = (0..1000)
-        .map(|_| Call::Locate {
-            id: random.below(n as u64),
-            pos: random.below(EXTENTS as u64 * BLOCK),
-            n: 1,
-        })
-        .collect();
+    let calls = located(n, random);
     row(&format!("  locate in {n}"), |make| {
-        each(make, &full, &located)
+        each(make, &full, &calls)
     });
 }
 
@@ -340,15 +356,7 @@ pub fn bench(random: &mut Random) {
 /// By the number of regions: the calls of ours one after another, and open.
 pub fn growth(random: &mut Random) {
     let sizes = [1, 2, 4, 8, 16, 32, REGIONS];
-    let id = 1000;
-    let create = Call::Create {
-        id,
-        tag: 1000,
-        name: name(named(1000, 16)),
-    };
-    let pairs = vec![[create.clone(), Call::Drop { id }]; 50].concat();
-    let grows_all = vec![Call::Grow { id }; EXTENTS];
-    let grown = [vec![create], grows_all, vec![Call::Drop { id }]].concat();
+    let (pairs, grown) = made();
     let full = |n: usize| opening(&vec![EXTENTS; n]);
     let others = |n: usize| opening(&vec![EXTENTS; n - 1]);
     grows(
@@ -360,24 +368,10 @@ pub fn growth(random: &mut Random) {
         each(&ours, &others(n), &grown)
     });
     grows("publish in so many regions", &sizes, |n| {
-        let len = |k: u64| k % (EXTENTS as u64 + 1) * BLOCK;
-        let calls: Vec<_> = (0..1000)
-            .map(|k| Call::Publish {
-                id: n as u64 / 2,
-                len: len(k),
-            })
-            .collect();
-        each(&ours, &full(n), &calls)
+        each(&ours, &full(n), &published(n))
     });
     grows("locate in so many regions", &sizes, |n| {
-        let calls: Vec<_> = (0..1000)
-            .map(|_| Call::Locate {
-                id: random.below(n as u64),
-                pos: random.below(EXTENTS as u64 * BLOCK),
-                n: 1,
-            })
-            .collect();
-        each(&ours, &full(n), &calls)
+        each(&ours, &full(n), &located(n, random))
     });
     grows("open of so many records of 60 extents", &sizes, |n| {
         let opening = full(n);
