@@ -87,7 +87,9 @@ pub extern "C" fn fundravai_align_up_each(numbers: &[u64]) -> u64
     let mut highest = 0u64;
     let (pairs, _) = numbers.as_chunks::<2>();
     for &[value, align] in pairs {
-        highest = highest.max(align::align_up(value, align).unwrap_or(0));
+        if let Some(place) = align::align_up(value, align) {
+            highest = highest.max(place);
+        }
     }
     highest
 }

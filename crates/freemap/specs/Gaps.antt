@@ -41,7 +41,7 @@ unfoldable pub tail_of : ℕ → List Range → ℕ
 tail_of te [] = te
 tail_of te (r ∷ rs) = cond (r.len == 0) (tail_of te rs) (max (end_of r) (tail_of te rs))
 
--- 1. "a list of pairs is odd", or "fewer places than: .. ranges + 1 for gaps"
+-- 1. "a list of pairs is odd", or "fewer places than: .. ranges + 1 for gaps". The list of gaps is places to write to: it may be odd.
 unfoldable pub complement_fails : List ℕ → List ℕ → Bool
 complement_fails rs gs = is_odd rs || nat_lt (length (pairs gs)) (length (pairs rs) + 1)
 

@@ -1,10 +1,10 @@
 -- A key and its number, read and written.
-use Rattle.std.proofs.Common.{◌≡◌, ℕ, ◌+◌, ◌^◌, ◌≤◌, ◌<◌, Bool, true, false, List, [], ◌∷◌, ◌++◌, length, take, drop, refl, sym, ap, ◌∙◌, arith, eqb, cond, Option, None, Some, append-nil, append_assoc, subst}
+use Rattle.std.proofs.Common.{◌≡◌, ℕ, ◌^◌, ◌≤◌, ◌<◌, List, [], ◌∷◌, ◌++◌, length, drop, refl, sym, ap, ◌∙◌, arith, Option, None, Some, append-nil, append_assoc, subst}
 use lib.ListN.{take-append-drop}
 use borrow.Author.Tests.{eqb-true}
 use lib.Seq.{drop-append_seam, take-append_seam}
-use Rattle.line.specs.Reading.{◌>>=◌, behind, digit_count, said, number_in, field_in, last_in}
-use Rattle.line.proofs.Digits.{Digits, own, front_digits, count_digits, kept, said_takes, said_again}
+use Rattle.line.specs.Reading.{◌>>=◌, behind, digit_count, number_in, field_in, last_in}
+use Rattle.line.proofs.Digits.{own, front_digits, count_digits, kept, said_takes, said_again}
 use Rattle.numbers.proofs.Cases.{none_some, same_some}
 use Rattle.numbers.proofs.Lists.{same_true, true_same}
 use Rattle.std.proofs.lemmas.Fmt.{digits_decimal}

@@ -1,13 +1,13 @@
 -- What is read is what document 01's grammar says: `command_in` reads a line that is a command's (`taken`), and no other (`reads`).
-use Rattle.std.proofs.Common.{◌≡◌, ℕ, ◌+◌, ◌^◌, ◌≤◌, ◌<◌, Bool, true, false, List, [], ◌∷◌, ◌++◌, ◌⊎◌, inl, inr, ⊎_elim, length, take, drop, refl, sym, ap, ◌∙◌, arith, eqb, leb, cond, not, ◌||◌, ◌&&◌, Option, None, Some, append_assoc, subst, codes, le-leb, length-append}
+use Rattle.std.proofs.Common.{◌≡◌, ℕ, ◌^◌, ◌≤◌, ◌<◌, Bool, true, false, List, ◌++◌, ◌⊎◌, inl, inr, ⊎_elim, length, drop, refl, sym, ap, ◌∙◌, arith, eqb, leb, cond, not, ◌||◌, ◌&&◌, Option, None, Some, append_assoc, subst, codes, le-leb, length-append}
 use borrow.Author.Tests.{leb-true, eq-eqb, not-true, ne_eqb}
 use Rattle.line.proofs.Digits.{Digits, own, kept}
-use Rattle.line.proofs.Fields.{bound, behind_takes, behind_again, field_takes, field_again, one_then, two_then, last_takes, last_again, field_then, last_then}
+use Rattle.line.proofs.Fields.{bound, behind_takes, behind_again, field_takes, one_then, two_then, last_takes, field_then, last_then}
 use Rattle.line.specs.Command.{Command, opening, calling, limit_text, line_of, Fits, LimitFits, NameByte, Says}
 use Rattle.line.specs.Reading.{◌>>=◌, u8, u32, u64, is_digit, digit_count, behind, field_in, last_in, is_name, name_in, limit_in, open_in, create_in, grow_in, publish_in, drop_in, cap_in, locate_in, command_in}
 use Rattle.model.specs.Calls as model
 use Rattle.numbers.proofs.Cases.{cases, clash, and-true, or-false, none_some, same_some}
-use Rattle.numbers.proofs.Lists.{all_imp, any_false, of_none, same_true, true_same}
+use Rattle.numbers.proofs.Lists.{all_imp, any_false, of_none, same_true}
 use Rattle.numbers.specs.Lists.{All, any, same}
 use Rattle.line.proofs.Writing.{few_digits}
 use Rattle.std.proofs.lemmas.Fmt.{digits_decimal, length-decimal-le}

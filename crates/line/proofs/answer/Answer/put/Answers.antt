@@ -1,4 +1,4 @@
-use Rattle.std.proofs.Common.{rules, arith, Fits, w64, ◌<◌, ◌^◌}
+use Rattle.std.proofs.Common.{rules, arith, Fits, w64}
 use Rattle.line.proofs.Writing.{answer_short}
 use Rattle.line.proofs.answer.Answer.put.Goals as goal
 
