@@ -9,9 +9,9 @@ use Rattle.accounting.specs.declared.Asked.{Asked}
 use Rattle.accounting.specs.declared.Posted.{Posted}
 use Rattle.exports.specs.Accounts.{flat_posted, fits_in}
 use Rattle.exports.specs.Flat.{Flattened}
-use Rattle.exports.specs.declared.FlatAnswer.{FlatAnswer}
 use Rattle.exports.specs.declared.accounts.FlatPosted.{FlatPosted}
 use Rattle.flat.specs.Chain.{Chain}
+use Rattle.flat.specs.declared.FlatAnswer.{FlatAnswer}
 use Rattle.flat.specs.declared.FlatAccounting.{FlatAccounting}
 use Rattle.numbers.specs.Range.{Range}
 use Rattle.numbers.specs.Refusals.{value_or, told, refusal_in}

@@ -1,8 +1,7 @@
 -- Answers as flat numbers, and records from them.
 use Rattle.std.specs.Prelude.{ℕ, Bool, true, false, cond, List, [], ◌≡◌, eqb, length, get_or, Option, None, Some, Result}
-use Rattle.exports.specs.declared.FlatAnswer.{FlatAnswer}
-use Rattle.exports.specs.declared.FlatOption.{FlatOption}
-use Rattle.flat.specs.Flat.{kind_of}
+use Rattle.flat.specs.Flat.{kind_of, flat_of}
+use Rattle.flat.specs.declared.FlatOption.{FlatOption}
 use Rattle.footprint.specs.Footprint.{footprint_of, refusal_of, check_of}
 use Rattle.footprint.specs.declared.Entry.{Entry}
 use Rattle.footprint.specs.declared.Header.{Header}
@@ -15,20 +14,6 @@ use Rattle.numbers.specs.Pairs.{flat}
 use Rattle.numbers.specs.Refusals.{Answer, accepted, refused, number_of, value_or, told, refusal_in}
 use Rattle.numbers.specs.declared.refusal.Refusal.{Refusal}
 use Rattle.regionmap.specs.declared.RegionMap.{RegionMap}
-
--- A number: 1 and the number. None: 0 and 0.
-abbrev pub flat_of : Option ℕ → FlatOption
-flat_of None = record { some = 0; value = 0 }
-flat_of (Some n) = record { some = 1; value = n }
-
--- A value: 0 and the value. A refusal: its number and 0.
-abbrev pub flat_answer : Answer ℕ → FlatAnswer
-flat_answer (accepted n) = record { refusal = 0; value = n }
-flat_answer (refused n) = record { refusal = n; value = 0 }
-
--- The same of a result.
-abbrev pub flat_told : Result ℕ Refusal → FlatAnswer
-flat_told r = flat_answer (told r)
 
 -- r is an answer of which P holds, as flat numbers.
 pub record Flattened {A B : Type 0} (flatten : A → B) (P : A → Type 0) (r : B) : Type 0 where

@@ -7,13 +7,13 @@ ghost use Rattle.accounting.specs.Table.{Valid, Posts, Asks, accounts_of, table_
 ghost use Rattle.exports.specs.Each.{AllowsEach, AsksEach, CountRow, PostsEach, questions};
 ghost use Rattle.flat.specs.Chain.{Chain};
 ghost use Rattle.numbers.specs.Pairs.{pairs};
-ghost use Rattle.exports.specs.Flat.{flat_of, Flattened};
+ghost use Rattle.flat.specs.Flat.{flat_of};
+ghost use Rattle.exports.specs.Flat.{Flattened};
 ghost use Rattle.flat.specs.Flat.{cap_from, row_from, accounts_from, flat_row, flat_accounts};
 ghost use Rattle.exports.specs.Accounts.{flat_posted, flat_asked};
 
-use crate::{FlatAnswer, FlatOption};
 use accounting::{Accounting, Asked, Posted};
-use flat::{FlatAccounting, FlatRow, cap_from};
+use flat::{FlatAccounting, FlatAnswer, FlatOption, FlatRow, cap_from};
 use numbers::{Refusal, number_in};
 use tagspace::TagSpace;
 

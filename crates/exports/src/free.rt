@@ -3,9 +3,10 @@ ghost use Rattle.std.specs.Prelude.{◌≡◌};
 ghost use Rattle.freemap.specs.Bytes.{free_of};
 ghost use Rattle.freemap.specs.Fit.{fit_of};
 ghost use Rattle.freemap.specs.Gaps.{Complemented};
-ghost use Rattle.exports.specs.Flat.{flat_answer, free_from, HandedOut, FlatHanded, FlatFit};
+ghost use Rattle.flat.specs.Flat.{flat_answer};
+ghost use Rattle.exports.specs.Flat.{free_from, HandedOut, FlatHanded, FlatFit};
 
-use crate::{FlatAnswer, FlatOption};
+use flat::{FlatAnswer, FlatOption};
 use freemap::FreeMap;
 use numbers::{Refusal, number_in};
 

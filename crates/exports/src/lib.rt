@@ -18,58 +18,12 @@ ghost use Rattle.numbers.specs.Range.{range};
 ghost use Rattle.numbers.specs.Refusals.{answer};
 ghost use Rattle.footprint.specs.Footprint.{max_extents, answer_of, Filled};
 ghost use Rattle.runs.specs.Runs.{Listed};
-ghost use Rattle.exports.specs.Flat.{flat_of, flat_answer, flat_told, limits_of, entry_of, header_of, Told, FlatTold, Flattened, FlatChecked};
+ghost use Rattle.flat.specs.Flat.{flat_of, flat_answer};
+ghost use Rattle.exports.specs.Flat.{limits_of, entry_of, header_of, Told, FlatTold, Flattened, FlatChecked};
 
-use flat::kind_of;
+use flat::{FlatAnswer, FlatOption, kind_of};
 use footprint::{Entry, Extent, Header, Limits};
 use numbers::{Refusal, number_in};
-
-// A number or none: some is 1 or 0, and value is 0 where there is none. Numbers, since C reads them.
-#[repr(C)]
-#[derive(Clone, Copy)]
-pub struct FlatOption {
-    pub some: u64,
-    pub value: u64,
-}
-
-// Document 01's refusal and 0, or 0 and a value; numbers, since C reads them.
-#[repr(C)]
-#[derive(Clone, Copy)]
-pub struct FlatAnswer {
-    pub refusal: u64,
-    pub value: u64,
-}
-
-impl From<Option<u64>> for FlatOption {
-    ghost from_gives = { λ found r. r ≡ flat_of found };
-
-    fn from(found: Option<u64>) -> FlatOption {
-        FlatOption {
-            some: found.is_some() as u64,
-            value: found.unwrap_or(0),
-        }
-    }
-}
-
-impl From<Result<u64, Refusal>> for FlatAnswer {
-    ghost from_gives = { λ answer r. r ≡ flat_told answer };
-
-    fn from(answer: Result<u64, Refusal>) -> FlatAnswer {
-        FlatAnswer {
-            refusal: number_in(answer),
-            value: answer.unwrap_or(0),
-        }
-    }
-}
-
-// Not generic with the one above: a usize is no `Into<u64>`.
-impl From<Result<usize, Refusal>> for FlatAnswer {
-    ghost from_gives = { λ answer r. r ≡ flat_told answer };
-
-    fn from(answer: Result<usize, Refusal>) -> FlatAnswer {
-        answer.map(|n| n as u64).into()
-    }
-}
 
 #[unsafe(no_mangle)]
 pub extern "C" fn fundravai_align_up(value: u64, align: u64) -> FlatOption

@@ -6,9 +6,10 @@ ghost use Rattle.regionmap.specs.RunRecords.{AnsweredAmong};
 ghost use Rattle.numbers.specs.Pairs.{pairs};
 ghost use Rattle.flat.specs.Chain.{Chain};
 ghost use Rattle.exports.specs.Each.{Extend, extending, Publish, publishing, LocatedEach, on_map, among_runs};
-ghost use Rattle.exports.specs.Flat.{flat_answer, flat_told, map_from, HandedOut, Flattened, FlatHanded};
+ghost use Rattle.flat.specs.Flat.{flat_answer, flat_told};
+ghost use Rattle.exports.specs.Flat.{map_from, HandedOut, Flattened, FlatHanded};
 
-use crate::FlatAnswer;
+use flat::FlatAnswer;
 use numbers::{Refusal, number_in};
 use regionmap::{RegionMap, locate_among};
 use runs::Run;

@@ -1,11 +1,12 @@
-// Records as flat numbers, for the crates that export functions: an exported function takes no enum and no `Option`.
+// Records and answers as flat numbers, for the crates that export functions: an exported function takes no enum and no `Option`.
 #![tactic(auto)]
 
 ghost use Rattle.std.specs.Prelude.{◌≡◌};
-ghost use Rattle.flat.specs.Flat.{kind_of, cap_from, row_from, accounts_from, flat_row, flat_accounts};
+ghost use Rattle.flat.specs.Flat.{kind_of, cap_from, row_from, accounts_from, flat_row, flat_accounts, flat_of, flat_answer, flat_told};
 
 use accounting::Accounting;
 use footprint::RegionKind;
+use numbers::{Refusal, number_in};
 use tagspace::TagSpace;
 
 // A tag's row. Without a cap, capped is false and cap 0.
@@ -92,5 +93,52 @@ impl From<Accounting> for FlatAccounting {
             count: accounts.count,
             reserved: accounts.reserved,
         }
+    }
+}
+
+// A number or none: some is 1 or 0, and value is 0 where there is none. Numbers, since C reads them.
+#[repr(C)]
+#[derive(Clone, Copy)]
+pub struct FlatOption {
+    pub some: u64,
+    pub value: u64,
+}
+
+// Document 01's refusal and 0, or 0 and a value; numbers, since C reads them.
+#[repr(C)]
+#[derive(Clone, Copy)]
+pub struct FlatAnswer {
+    pub refusal: u64,
+    pub value: u64,
+}
+
+impl From<Option<u64>> for FlatOption {
+    ghost from_gives = { λ found r. r ≡ flat_of found };
+
+    fn from(found: Option<u64>) -> FlatOption {
+        FlatOption {
+            some: found.is_some() as u64,
+            value: found.unwrap_or(0),
+        }
+    }
+}
+
+impl From<Result<u64, Refusal>> for FlatAnswer {
+    ghost from_gives = { λ answer r. r ≡ flat_told answer };
+
+    fn from(answer: Result<u64, Refusal>) -> FlatAnswer {
+        FlatAnswer {
+            refusal: number_in(answer),
+            value: answer.unwrap_or(0),
+        }
+    }
+}
+
+// Not generic with the one above: a usize is no `Into<u64>`.
+impl From<Result<usize, Refusal>> for FlatAnswer {
+    ghost from_gives = { λ answer r. r ≡ flat_told answer };
+
+    fn from(answer: Result<usize, Refusal>) -> FlatAnswer {
+        answer.map(|n| n as u64).into()
     }
 }
