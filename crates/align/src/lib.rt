@@ -13,9 +13,10 @@ pub fn align_up(value: u64, align: u64) -> Option<u64>
         return None;
     }
     let mask = align - 1;
-    if value > 0xffff_ffff_ffff_ffff - mask {
+    let reach = u128::from(value) + u128::from(mask);
+    if reach > u128::from(u64::MAX) {
         return None;
     }
-    let reach = value + mask;
+    let reach = reach as u64;
     Some(reach - (reach & mask))
 }

@@ -66,13 +66,14 @@ reach_begins h x = record { behind = omega arith; inside = omega arith; from = r
 
 module _ {xs : List Range} {i file len j : ℕ} (g : Reaching xs i file len j) where
   module _ {o n : ℕ} (l : j < length xs) (x : get_or xs j blank ≡ range o n) where
-    pub reach_skips : n ≡ 0 → Reaching xs i file len (j + 1)
+    pub reach_skips : n ≡ 0 → Reaching xs i file (len + n) (j + 1)
     reach_skips z =
+        let e : len + n ≡ len = omega arith in
         record {
           behind = omega (arith, g.behind);
           inside = omega arith;
           from = g.from;
-          goes = g.goes ∙ ap (joined_to (range file len)) (skipped xs j o n l x z);
+          goes = rw e (g.goes ∙ ap (joined_to (range file len)) (skipped xs j o n l x z));
         }
 
     module _ (d : n ≡ 0 → ⊥) where

@@ -7,18 +7,14 @@ ghost use Rattle.runs.specs.Inner.{Reached, Joined};
 
 use numbers::passes;
 
-// Whether an extent (next, more) goes on where a run (file, len) ends, and neither sum passes
-// 2^64 - 1. A run that ends at an offset ends below that.
+// Whether an extent (next, more) goes on where a run (file, len) ends, and neither sum passes 2^64 - 1.
 fn follows(file: u64, len: u64, next: u64, more: u64) -> bool
     ensures { result ≡ joins (range file len) (range next more) }
 {
-    if next < len {
+    let Some(end) = file.checked_add(len) else {
         return false;
-    }
-    if next - len != file {
-        return false;
-    }
-    !passes(len, more, 0xffff_ffff_ffff_ffff)
+    };
+    end == next && !passes(len, more, 0xffff_ffff_ffff_ffff)
 }
 
 // A run's length, and the first extent behind it.
@@ -36,10 +32,7 @@ fn reach(extents: &[[u64; 2]], i: usize) -> Stretch
     let [file, mut len] = extents[i];
     for j in i + 1..extents.len() {
         let [next, more] = extents[j];
-        if more == 0 {
-            continue;
-        }
-        if !follows(file, len, next, more) {
+        if more > 0 && !follows(file, len, next, more) {
             return Stretch { len, next: j };
         }
         len += more;

@@ -22,12 +22,12 @@ returns-then-not-is_power_of_two c = simp (sym c.is_power_of_two.ensures ∙ c.i
 pub overflow_sub-mask : goal.overflow_sub-mask
 overflow_sub-mask c = omega (arith, power_pos 64 _ (power (goal.at.overflow_sub-mask c).Else-not-is_power_of_two))
 
-pub returns-then-value-mask : goal.returns-then-value-mask
+pub returns-then-reach-from : goal.returns-then-reach-from
 unfolding align_up
-returns-then-value-mask c =
+returns-then-reach-from c =
     let a = c.args in
     let h : top < a.value + (a.align - 1) = omega arith in
-    simp (power (goal.at.returns-then-value-mask c).Else-not-is_power_of_two, lt-leb _ _ h)
+    simp (power (goal.at.returns-then-reach-from c).Else-not-is_power_of_two, lt-leb _ _ h)
 
 pub overflow_sub-result : goal.overflow_sub-result
 overflow_sub-result c = and_le_l _ _
@@ -36,5 +36,6 @@ pub returns : goal.returns
 unfolding align_up
 returns c =
     let a = c.args in
-    let h : a.value + (a.align - 1) ≤ top = omega arith in
-    simp (power (goal.at.returns c).Else-not-is_power_of_two, le-leb _ _ h, masked 64 _ (power (goal.at.returns c).Else-not-is_power_of_two))
+    let h : a.value + (a.align - 1) ≤ top = omega (arith, c.from.ensures, c.from-2.ensures, c.from-3.ensures, c.if-reach-from.false) in
+    let p = power (goal.at.returns c).Else-not-is_power_of_two in
+    rw (c.from.ensures, c.from-2.ensures) (simp (p, le-leb _ _ h, masked 64 _ p))

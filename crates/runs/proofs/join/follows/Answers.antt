@@ -9,23 +9,26 @@ use Rattle.numbers.specs.Sums.{top}
 use Rattle.numbers.proofs.Cases.{not_above}
 use Rattle.runs.proofs.join.follows.Goals as goal
 
-pub returns-then-next-len : goal.returns-then-next-len
+pub returns-in_default : goal.returns-in_default
 unfolding joins
-returns-then-next-len c = let a = c.args in
-    let d : a.file + a.len ≡ a.next → ⊥ = λ e. let l = c.if-next-len.true in absurd (omega arith) in
+returns-in_default c = let a = c.args in
+    let d : a.file + a.len ≡ a.next → ⊥ = λ e. absurd (omega (arith, c.in_default.ensures, c.ranges.next.fits)) in
     simp (ne_eqb _ _ d)
 
-pub returns-then-next-len-2 : goal.returns-then-next-len-2
+pub returns-then-end-next : goal.returns-then-end-next
 unfolding joins
-returns-then-next-len-2 c = let a = c.args in
-    let d : a.file + a.len ≡ a.next → ⊥ = λ e. let l = c.if-next-len.false in c.if-next-len-2.true (omega arith) in
-    simp (ne_eqb _ _ d)
-
-pub returns : goal.returns
-unfolding joins
-returns c = let a = c.args in
-    let l = c.if-next-len.false in
-    let n = c.if-next-len-2.false in
-    let e : a.file + a.len ≡ a.next = omega arith in
-    let b : a.file + a.len ≤ top = omega arith in
+returns-then-end-next c = let a = c.args in
+    let s = c.in-Some.ensures in
+    let t = c.if-end-next.true in
+    let e : a.file + a.len ≡ a.next = omega (arith, s.1) in
+    let b : a.file + a.len ≤ top = omega (arith, s.0) in
     ap not c.passes.ensures ∙ simp (eq-eqb _ _ e, le-leb _ _ b) (not_above (a.len + a.more) top)
+
+pub returns-else-end-next : goal.returns-else-end-next
+unfolding joins
+returns-else-end-next c = let a = c.args in
+    let s = c.in-Some.ensures in
+    let t = c.if-end-next.false in
+    let d : a.file + a.len ≡ a.next → ⊥ = λ e. t (omega (arith, s.1)) in
+    let n : c.in-Some.end ≡ a.next → ⊥ = t in
+    simp (ne_eqb _ _ d, ne_eqb _ _ n)
