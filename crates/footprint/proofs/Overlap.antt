@@ -1,22 +1,21 @@
 -- The overlap test: what `overlaps` says of the bytes, and that on a sorted list the neighbours decide.
-use Prim.Native.Nat.{ℕ, zero, suc, ◌+◌, ◌-◌, ◌≤◌, ◌<◌}
+use Prim.Native.Nat.{ℕ, suc, ◌+◌, ◌-◌, ◌≤◌, ◌<◌}
 use mathlib.Core.Bool.{true, false, ◌||◌}
 use mathlib.Core.List.{List, [], ◌∷◌}
 use mathlib.Core.Path.{◌≡◌, refl, sym, ◌∙◌}
-use native.Mathlib.Nat.{le_of_suc-le-suc, not-suc-le-zero}
 use native.Mathlib.Omega.{arith}
 use lib.Dec.{ltb}
 use lib.ListN.{length, get_or}
 use borrow.Author.Tests.{ltb-true, ltb-false}
 use Rattle.footprint.specs.Footprint.{overlaps}
 use Rattle.footprint.specs.Inner.{neighbours_meet}
-use Rattle.numbers.specs.Lists.{All, any}
+use Rattle.numbers.specs.Lists.{All, any, any_two}
 use Rattle.numbers.specs.Order.{precedes, InOrder}
-use Rattle.numbers.specs.Range.{Range, end_of, Meet, meets, blank}
+use Rattle.numbers.specs.Range.{Range, end_of, Meet, meets, Disjoint, blank}
 use Rattle.numbers.specs.Sums.{top}
 use Rattle.sort.specs.Sort.{insert, sorted, Ascending}
-use Rattle.numbers.proofs.Cases.{cases, clash, or-false}
-use Rattle.numbers.proofs.Lists.{all_at, all_imp, any_at, any_true, any_false, of_none, or_exchange}
+use Rattle.numbers.proofs.Cases.{cases, clash, never}
+use Rattle.numbers.proofs.Lists.{all_imp, any_at, any_true, of_none, pairwise_before, two_false, of_no_two, or_exchange}
 use Rattle.numbers.proofs.Order.{in_offset}
 use Rattle.numbers.proofs.Ranges.{end_exact, apart, meets_true, meet_true, meets_false, meets_comm}
 use Rattle.sort.proofs.Laws.{test_insert, test_sorted}
@@ -30,7 +29,7 @@ pub record TwoMeet (l : List Range) : Type 0 where
   pub meet : Meet (get_or l left blank) (get_or l right blank)
 
 pub overlaps_true : (l : List Range) → overlaps l ≡ true → TwoMeet l
-unfolding overlaps
+unfolding any_two
 overlaps_true [] e = clash {b = false} e refl
 overlaps_true (r ∷ rs) e =
     cases (any (meets r) rs)
@@ -42,26 +41,26 @@ overlaps_true (r ∷ rs) e =
     record { left = suc m.left; right = suc m.right; order = omega (arith, m.order); inside = omega (arith, m.inside); meet = m.meet })
 
 -- no two ranges of the list have a common byte
+pub overlaps_disjoint : (l : List Range) → overlaps l ≡ false → Disjoint l
+overlaps_disjoint = two_false meets (λ (r q : Range). Meet r q → ⊥) meets_false
+
+pub disjoint_overlaps : (l : List Range) → Disjoint l → overlaps l ≡ false
+disjoint_overlaps = of_no_two meets (λ (r q : Range). Meet r q → ⊥) (λ r q n. never (meets r q) (λ t. n (meets_true r q t)))
+
 pub overlaps_false : (l : List Range) → overlaps l ≡ false → (i j : ℕ) → i < j → j < length l → Meet (get_or l i blank) (get_or l j blank) → ⊥
-unfolding overlaps
-overlaps_false [] e i j a b m = absurd (not-suc-le-zero b)
-overlaps_false (r ∷ rs) e i zero a b m = absurd (not-suc-le-zero a)
-overlaps_false (r ∷ rs) e zero (suc j) a b m =
-    meets_false r (get_or rs j blank) (all_at (λ (q : Range). meets r q ≡ false) rs j blank (any_false (meets r) rs (or-false (any (meets r) rs) (overlaps rs) e).0) (le_of_suc-le-suc b)) m
-overlaps_false (r ∷ rs) e (suc i) (suc j) a b m =
-    overlaps_false rs (or-false (any (meets r) rs) (overlaps rs) e).1 i j (le_of_suc-le-suc a) (le_of_suc-le-suc b) m
+overlaps_false l e i j a b = pairwise_before (λ (r q : Range). Meet r q → ⊥) l blank i j (overlaps_disjoint l e) a b
 
 -- ---- the sorted list overlaps itself as the list does
 
 overlaps_insert : (x : Range) (l : List Range) → overlaps (insert x l) ≡ (any (meets x) l || overlaps l)
-unfolding overlaps any insert
+unfolding any_two any insert
 overlaps_insert x [] = refl
 overlaps_insert x (y ∷ ys) =
     cases (precedes x y) (λ e. simp e)
     (λ e. simp (e, test_insert (meets y) x ys, overlaps_insert x ys, meets_comm y x) (or_exchange (meets x y) (any (meets y) ys) (any (meets x) ys) (overlaps ys)))
 
 pub overlaps_sorted : (l : List Range) → overlaps (sorted l) ≡ overlaps l
-unfolding overlaps sorted
+unfolding any_two sorted
 overlaps_sorted [] = refl
 overlaps_sorted (x ∷ xs) = overlaps_insert x (sorted xs) ∙ rw (test_sorted (meets x) xs, overlaps_sorted xs)
 
@@ -92,7 +91,7 @@ touch r q a b o h =
     })
 
 pub neighbours_decide : (l : List Range) → Ascending l → All Solid l → neighbours_meet l ≡ overlaps l
-unfolding neighbours_meet overlaps any
+unfolding neighbours_meet any_two any
 neighbours_decide [] a s = refl
 neighbours_decide (r ∷ []) a s = refl
 neighbours_decide (r ∷ q ∷ l) a s =

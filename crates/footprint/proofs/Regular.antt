@@ -8,23 +8,22 @@ use native.Mathlib.Omega.{arith}
 use lib.Dec.{eqb}
 use lib.Pow.{pow_pos}
 use borrow.Author.Tests.{eq-eqb, ne_eqb, eqb-true, eqb-false, le-ltb, ltb-true, not-true, not-false}
-use Rattle.footprint.specs.Footprint.{block_of, kind_code, committed, ranges, lists_fail, logs_fail, span_fails, block_fails, near, entry_fails, count_fails, outside, overlaps, header_tests, entry_tests, extent_tests, overlap_tests, refusal_of}
+use Rattle.footprint.specs.Footprint.{block_of, kind_code, committed, ranges, lists_fail, logs_fail, span_fails, block_fails, near, entry_fails, count_fails, outside, header_tests, entry_tests, extent_tests, overlap_tests, refusal_of}
 use Rattle.footprint.specs.declared.Entry.{Entry}
 use Rattle.footprint.specs.declared.Header.{Header}
 use Rattle.footprint.specs.declared.Limits.{Limits}
 use Rattle.footprint.specs.declared.RegionKind.{RegionKind}
 use Rattle.footprint.specs.declared.RegionKind.TheVariants.{Slot}
 use Rattle.numbers.specs.Lists.{All}
-use Rattle.numbers.specs.Range.{Range, range, Meet, meets, Disjoint, total}
+use Rattle.numbers.specs.Range.{Range, range, Meet, Disjoint, total}
 use Rattle.numbers.specs.Refusals.{first, refuse}
 use Rattle.numbers.specs.Sums.{top}
 use Rattle.footprint.proofs.Answer.{accepted_passed, accepted_apart, none_failed}
-use Rattle.footprint.proofs.Overlap.{overlaps_false}
+use Rattle.footprint.proofs.Overlap.{overlaps_disjoint, disjoint_overlaps}
 use Rattle.footprint.proofs.Passed.{Lists, Logs, Block, Entries, Inside, kinds_tell}
 use Rattle.numbers.proofs.Cases.{cases, never, and-true, or-true as one_true}
-use Rattle.numbers.proofs.Disjoint.{at_disjoint}
 use Rattle.numbers.proofs.Lists.{all_imp, of_none}
-use Rattle.numbers.proofs.Ranges.{end_exact, meets_true}
+use Rattle.numbers.proofs.Ranges.{end_exact}
 use Rattle.numbers.proofs.Refusals.{NoneBelow, first_none, first_parts, first_go, none_first, pass_none, refuse_none, refuse_high, first_high, each_high, each_none}
 
 -- 5 to 10: header and entry agree
@@ -49,20 +48,6 @@ pub record Regular (lim : Limits) (id : ℕ) (e : Entry) (h : Header) (xs : List
   pub inside : All (Inside lim e) (committed e xs)
   pub capacity : total (committed e xs) ≡ e.capacity
   pub disjoint : Disjoint (ranges lim e xs)
-
--- ---- overlaps and Disjoint
-
-pub overlaps_disjoint : (rs : List Range) → overlaps rs ≡ false → Disjoint rs
-overlaps_disjoint rs f = at_disjoint rs (overlaps_false rs f)
-
-pub disjoint_overlaps : (rs : List Range) → Disjoint rs → overlaps rs ≡ false
-unfolding overlaps
-disjoint_overlaps [] d = refl
-disjoint_overlaps (r ∷ rs) d = simp (
-  of_none (meets r) rs (all_imp (λ (q : Range). Meet r q → ⊥) (λ (q : Range). meets r q ≡ false)
-      (λ q n. never (meets r q) (λ t. n (meets_true r q t))) rs d.0),
-  disjoint_overlaps rs d.1,
-)
 
 -- ---- from the refusal
 

@@ -1,12 +1,12 @@
 -- Document 01, "Footprint check": what `check_region` refuses, and the footprint of a region that it accepts.
-use Rattle.std.specs.Prelude.{ℕ, ◌+◌, ◌-◌, ◌*◌, ◌/◌, ◌%◌, ◌^◌, min, max, Bool, false, cond, not, ◌&&◌, ◌||◌, List, [], ◌∷◌, ◌++◌, ◌≡◌, ltb, eqb, length, take, drop, Option, Some, None, Result, Ok, Err}
+use Rattle.std.specs.Prelude.{ℕ, ◌+◌, ◌-◌, ◌*◌, ◌/◌, ◌%◌, ◌^◌, min, max, Bool, cond, not, ◌&&◌, ◌||◌, List, [], ◌∷◌, ◌++◌, ◌≡◌, ltb, eqb, length, take, drop, Option, Some, None, Result, Ok, Err}
 use Rattle.footprint.specs.declared.Entry.{Entry}
 use Rattle.footprint.specs.declared.Header.{Header}
 use Rattle.footprint.specs.declared.Limits.{Limits}
 use Rattle.footprint.specs.declared.RegionKind.{RegionKind}
 use Rattle.footprint.specs.declared.RegionKind.TheVariants.{Append, Page, Slot}
 use Rattle.footprint.specs.declared.Extent.{Extent}
-use Rattle.numbers.specs.Lists.{any, written}
+use Rattle.numbers.specs.Lists.{any, any_two, written}
 use Rattle.numbers.specs.Pairs.{is_odd, pairs, flat}
 use Rattle.numbers.specs.Range.{Range, range, meets, total}
 use Rattle.numbers.specs.Refusals.{refuse, first, Answer, accepted, refused, answer, refusal_number, each_extent}
@@ -103,9 +103,8 @@ outside lim e x =
     || ltb x.offset lim.table_end
 
 -- Some two ranges of a list meet.
-unfoldable pub overlaps : List Range → Bool
-overlaps [] = false
-overlaps (r ∷ rs) = any (meets r) rs || overlaps rs
+abbrev pub overlaps : List Range → Bool
+overlaps = any_two meets
 
 -- 1, 2 and 4: the lists' lengths, the block logs and the added entry checks.
 abbrev pub entry_tests : Limits → Entry → Header → List ℕ → ℕ → List ℕ

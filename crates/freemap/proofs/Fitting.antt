@@ -66,20 +66,21 @@ module _ (len mask skew start bytes : ℕ) (power : is_power_of_two (mask + 1) �
   beyond : end_of gap < start + pad + len → fit ≡ None
   beyond h = refused_by len (mask + 1) skew gap (too_far len (mask + 1) skew gap (rw pad_place h))
 
-  pub fit_short : bytes < len → fit ≡ None
-  fit_short h = beyond (let e = end_le gap in omega arith)
-
   pub fit_skipped : top < start + (skew + mask) → fit ≡ None
   fit_skipped h = refused_by len (mask + 1) skew gap (skips len (mask + 1) skew gap (omega arith))
 
-  -- the two sums as they wrap: both are right unless the gap is skipped
+  -- the sums as they wrap: those of the place are right unless the gap is skipped
   module _ (reach : ℕ) (reached : reach ≡ (start + (skew + mask)) % 2 ^ 64) where
     exact : start + (skew + mask) ≤ top → reach ≡ start + (skew + mask)
     exact s = omega (arith, reached)
 
-    pub fit_far : len ≤ bytes → bytes - len < mask - bit_and reach mask → fit ≡ None
-    fit_far l h =
-        by_lt top (start + (skew + mask)) fit_skipped (λ s. beyond (let f : bytes - len < pad = rw (exact s) at h in let e = end_le gap in omega arith))
+    abbrev Wanted : ℕ → Type 0
+    Wanted need = need ≡ (mask - bit_and reach mask + len) % 2 ^ 64
+
+    pub fit_far : (need : ℕ) → Wanted need → bytes < need → fit ≡ None
+    fit_far need w h =
+        by_lt top (start + (skew + mask)) fit_skipped
+        (λ s. beyond (let e : need ≡ (pad + len) % 2 ^ 64 = rw (exact s) at w in let u = end_le gap in omega (arith, e)))
 
     module _ (at : ℕ) (placed : at ≡ (start + (mask - bit_and reach mask)) % 2 ^ 64) where
       place_exact : start + (skew + mask) ≤ top → at ≡ start + pad
@@ -89,12 +90,12 @@ module _ (len mask skew start bytes : ℕ) (power : is_power_of_two (mask + 1) �
       fit_high h =
           by_lt top (start + (skew + mask)) fit_skipped (λ s. beyond (let p = place_exact s in let e = end_top gap in omega arith))
 
-      pub fit_at : start + (skew + mask) ≤ top → len ≤ bytes → mask - bit_and reach mask ≤ bytes - len → len ≤ top - at → fit ≡ Some at
+      pub fit_at : start + (skew + mask) ≤ top → (need : ℕ) → Wanted need → need ≤ bytes → len ≤ top - at → fit ≡ Some at
       unfolding end_of
-      fit_at s l p h =
-          let q : pad ≤ bytes - len = rw (exact s) at p in
+      fit_at s need w p h =
+          let q : need ≡ (pad + len) % 2 ^ 64 = rw (exact s) at w in
           let k = place_exact s in
-          allowed_by len (mask + 1) skew gap (has_room len (mask + 1) skew gap (omega arith) (rw pad_place (omega arith)))
+          allowed_by len (mask + 1) skew gap (has_room len (mask + 1) skew gap (omega arith) (rw pad_place (omega (arith, q))))
           ∙ ap Some (pad_place ∙ sym k)
 
 -- ---- one gap more

@@ -10,18 +10,15 @@ use std::num::wrapping_add_u64;
 
 const TOP: u64 = 0xffff_ffff_ffff_ffff;
 
-// The place of len bytes in the gap of so many bytes from start on, where mask is align - 1. Its two
-// sums wrap only where the gap is skipped, which is asked last: few gaps come that far.
+// The place of len bytes in the gap of so many bytes from start on, where mask is align - 1. Its sums may wrap until the
+// last two tests, which few gaps come to: a gap that is skipped, or that has no place below 2^64, is refused there.
 fn fit_in(start: u64, bytes: u64, len: u64, mask: u64, skew: u64) -> Option<u64>
     requires { (is_power_of_two (mask + 1) ≡ true) × (skew + mask ≤ top) }
     ensures { result ≡ first_fit len (mask + 1) skew (range start bytes ∷ []) }
 {
-    if bytes < len {
-        return None;
-    }
     let lead = skew + mask;
     let pad = mask - (wrapping_add_u64(start, lead) & mask);
-    if bytes - len < pad {
+    if bytes < wrapping_add_u64(pad, len) {
         return None;
     }
     let at = wrapping_add_u64(start, pad);

@@ -10,12 +10,12 @@ use Rattle.freemap.specs.Fit.{first_fit, allows, skipped, place_in}
 use Rattle.freemap.specs.Inner.{swept}
 use Rattle.model.specs.Calls.{Call, create, grow, publish, locate, known, named, tag_full, cap_fails, created_at, step, refusal_to, byte_for, answer_to, accept, next, refusal_shown, at_shown, grown_at, published_at}
 use Rattle.model.specs.Listing.{line, Line, lines_of, opening, main_a, Listing}
-use Rattle.model.specs.Open.{lists_fail_in, logs_fail_in, length_fails, each_record, shared, marked, open_refusal, opened, highest, rows_for}
+use Rattle.model.specs.Open.{lists_fail_in, logs_fail_in, length_fails, each_record, marked, open_refusal, opened, highest, rows_for}
 use Rattle.model.specs.Region.{footprints, on_region}
 use Rattle.model.specs.Span.{least_free}
 use Rattle.model.specs.World.{World, held, free, has_row}
 use Rattle.numbers.specs.Keyed.{has_key, keyed, put_keyed}
-use Rattle.numbers.specs.Lists.{any, keep}
+use Rattle.numbers.specs.Lists.{any, any_two, keep}
 use Rattle.numbers.specs.Order.{precedes}
 use Rattle.numbers.specs.Pairs.{pairs}
 use Rattle.numbers.specs.Range.{end_of}
@@ -57,7 +57,7 @@ abbrev w3 : World
 w3 = published_at w2 1 65536
 
 opens : open_refusal opening ≡ 0
-unfolding open_refusal lists_fail_in logs_fail_in length_fails shared marked marks_from first refuse any pairs sum each_record
+unfolding open_refusal lists_fail_in logs_fail_in length_fails marked marks_from first refuse any any_two pairs sum each_record
 opens = refl
 
 s0 : Sound w0

@@ -11,7 +11,7 @@ use lib.Seq.{drop-drop}
 use borrow.Author.Tests.{ltb-false, le-ltb, eqb-true, eq-eqb, ne_eqb, eqb-false, not-false}
 use Rattle.footprint.specs.Footprint.{max_extents, committed, logs_fail}
 use Rattle.footprint.specs.declared.Limits.{Limits}
-use Rattle.model.specs.Open.{Record, Opening, each_record, region_from, regions_from, lists_fail_in, logs_fail_in, length_fails, record_refusal, shared, usable, marked, open_refusal, highest, rows_for, opened}
+use Rattle.model.specs.Open.{Record, Opening, each_record, region_from, regions_from, lists_fail_in, logs_fail_in, length_fails, record_refusal, usable, marked, open_refusal, highest, rows_for, opened}
 use Rattle.model.specs.Region.{Region, footprint, footprints}
 use Rattle.model.specs.World.{tag_of, row_of, with_tag}
 use Rattle.numbers.specs.Keyed.{HasKey, InKeyOrder}
@@ -28,7 +28,7 @@ use Rattle.model.proofs.Sound.{Regular, Sound}
 use Rattle.numbers.proofs.Cases.{or-false}
 use Rattle.numbers.proofs.Keyed.{put_least}
 use Rattle.std.proofs.lemmas.List.{get_or-map}
-use Rattle.numbers.proofs.Lists.{all_at, all_of, all_imp, all_both, map_all, any_false, of_none, at_distinct, distinct_at}
+use Rattle.numbers.proofs.Lists.{all_at, all_of, all_imp, all_both, map_all, any_false, of_none, two_false, of_no_two, at_distinct, distinct_at}
 use Rattle.numbers.proofs.Refusals.{first_none, none_first, pass_none, refuse_none, first_all}
 use Rattle.settle.proofs.Marking.{marks_length, mark_at}
 use Rattle.settle.proofs.Unmarked.{ranges_of, NamesDiffer, none_superseded, marks_none, none_marks}
@@ -176,21 +176,6 @@ module _ (lim : Limits) where
   unfolding length_fails
   length_fine t f = simp (le-ltb _ _ t, le-ltb _ _ f)
 
--- ---- 14: no two numbers are the same
-
-pub shared_distinct : (ns : List ℕ) → shared ns ≡ false → Distinct ns
-unfolding shared
-shared_distinct [] e = tt
-shared_distinct (n ∷ ns) e =
-    let s = or-false _ _ e in
-    (all_imp (λ (m : ℕ). eqb n m ≡ false) (λ (m : ℕ). n ≡ m → ⊥) (eqb-false n) ns (any_false (eqb n) ns s.0), shared_distinct ns s.1)
-
-pub distinct_shared : (ns : List ℕ) → Distinct ns → shared ns ≡ false
-unfolding shared
-distinct_shared [] d = refl
-distinct_shared (n ∷ ns) d =
-    simp (of_none (eqb n) ns (all_imp (λ (m : ℕ). n ≡ m → ⊥) (λ (m : ℕ). eqb n m ≡ false) (ne_eqb n) ns d.0), distinct_shared ns d.1)
-
 -- ---- 15: no two footprints meet, and no two names are the same
 
 abbrev name_of : settling.Region → List ℕ
@@ -305,7 +290,7 @@ module _ (o : Opening) where
         table = l.0;
         file = l.1;
         checked = first_all (checks o) t4.0;
-        numbers = shared_distinct _ (refuse_none 14 _ (omega arith) t14.0);
+        numbers = two_false eqb (λ (m n : ℕ). m ≡ n → ⊥) eqb-false _ (refuse_none 14 _ (omega arith) t14.0);
         apart = m.0;
         names = subst Distinct names_from m.1;
       }
@@ -322,7 +307,7 @@ module _ (o : Opening) where
             (
               none_first _ f.checked,
               (
-                pass_none 14 _ (distinct_shared _ f.numbers),
+                pass_none 14 _ (of_no_two eqb (λ (m n : ℕ). m ≡ n → ⊥) ne_eqb _ f.numbers),
                 (pass_none 15 _ (apart_marked o.limits (regions_from o) f.apart (subst Distinct (sym names_from) f.names)), tt),
               ),
             ),

@@ -1,8 +1,8 @@
 -- Free spans: the test and the search say what they are to say, and the free map's first fit is the same.
 use Prim.Native.Nat.{ℕ, zero, suc, ◌+◌, ◌*◌, ◌/◌, ◌%◌, ◌≤◌, ◌<◌}
 use mathlib.Core.Bool.{Bool, true, false}
-use Rattle.std.specs.Prelude.{Option, None, Some}
-use mathlib.Core.Path.{◌≡◌, refl, ap, sym, ◌∙◌}
+use Rattle.std.specs.Prelude.{None, Some}
+use mathlib.Core.Path.{◌≡◌, ap, sym, ◌∙◌}
 use native.Mathlib.Nat.{le_antisymm, div-add-mod', mul-mod_left}
 use native.Mathlib.Omega.{arith}
 use lib.Pow.{pow_pos, pow_mono}

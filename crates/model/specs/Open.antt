@@ -1,12 +1,12 @@
 -- Document 01, "The plan (added)", open: which arguments it turns down, and the world of those that it accepts.
-use Rattle.std.specs.Prelude.{ℕ, ◌+◌, ◌-◌, ◌*◌, ◌%◌, ◌^◌, max, Bool, true, false, not, ◌||◌, List, [], ◌∷◌, map, eqb, ltb, length, take, drop}
+use Rattle.std.specs.Prelude.{ℕ, ◌+◌, ◌-◌, ◌*◌, ◌%◌, ◌^◌, max, Bool, true, not, ◌||◌, List, [], ◌∷◌, map, eqb, ltb, length, take, drop}
 use Rattle.footprint.specs.Footprint.{max_extents, committed, logs_fail, refusal_of}
 use Rattle.footprint.specs.declared.Entry.{Entry}
 use Rattle.footprint.specs.declared.Header.{Header}
 use Rattle.footprint.specs.declared.Limits.{Limits}
 use Rattle.model.specs.Region.{Region, footprint}
 use Rattle.model.specs.World.{World, TagRow, with_tag}
-use Rattle.numbers.specs.Lists.{any}
+use Rattle.numbers.specs.Lists.{any, any_two}
 use Rattle.numbers.specs.Pairs.{is_odd, pairs}
 use Rattle.numbers.specs.Refusals.{refuse, first, Answer, answer}
 use Rattle.numbers.specs.Sums.{sum}
@@ -97,9 +97,8 @@ abbrev pub record_refusal : Limits → Record → List ℕ → ℕ
 record_refusal lim r xs = refusal_of lim r.number r.entry r.header xs (2 * (r.entry.extent_count + 2))
 
 -- Two numbers of a list are the same.
-unfoldable pub shared : List ℕ → Bool
-shared [] = false
-shared (n ∷ ns) = any (eqb n) ns || shared ns
+abbrev pub shared : List ℕ → Bool
+shared = any_two eqb
 
 -- A region as settlement takes it.
 abbrev pub usable : Limits → Region → settling.Region

@@ -13,8 +13,8 @@ use lib.Seq.{drop-cons, append_snoc, set_at, get_or_at, get_or-drop, get_or-set_
 use lib.Pointwise.{pointwise}
 use Rattle.std.specs.List.{list_any}
 use borrow.Author.Tests.{eq-eqb, eqb-true}
-use Rattle.numbers.specs.Lists.{All, Any, Pairwise, Distinct, any, same, written}
-use Rattle.numbers.proofs.Cases.{cases, clash, never, by_lt, by_eq, and-true}
+use Rattle.numbers.specs.Lists.{All, Any, Pairwise, Distinct, any, any_two, same, written}
+use Rattle.numbers.proofs.Cases.{cases, clash, never, by_lt, by_eq, and-true, or-false}
 
 module _ {A : Type 0} (P : A → Type 0) where
   pub all_append : (xs ys : List A) → All P xs → All P ys → All P (xs ++ ys)
@@ -165,6 +165,20 @@ module _ {A : Type 0} (f : A → Bool) where
   unfolding any
   any_same P g e [] a = refl
   any_same P g e (x ∷ xs) a = rw (e x a.0, any_same P g e xs a.1)
+
+-- no two elements pass a test: a fact about every two
+module _ {A : Type 0} (f : A → A → Bool) (R : A → A → Type 0) where
+  pub two_false : ((x y : A) → f x y ≡ false → R x y) → (l : List A) → any_two f l ≡ false → Pairwise R l
+  unfolding any_two
+  two_false h [] e = tt
+  two_false h (x ∷ xs) e =
+      let s = or-false (any (f x) xs) (any_two f xs) e in
+      (all_imp (λ (y : A). f x y ≡ false) (R x) (h x) xs (any_false (f x) xs s.0), two_false h xs s.1)
+
+  pub of_no_two : ((x y : A) → R x y → f x y ≡ false) → (l : List A) → Pairwise R l → any_two f l ≡ false
+  unfolding any_two
+  of_no_two h [] p = refl
+  of_no_two h (x ∷ xs) p = simp (of_none (f x) xs (all_imp (R x) (λ (y : A). f x y ≡ false) (h x) xs p.0), of_no_two h xs p.1)
 
 -- two lists compared
 pub same_true : (a b : List ℕ) → same a b ≡ true → a ≡ b

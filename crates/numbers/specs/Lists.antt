@@ -23,6 +23,12 @@ unfoldable pub any : {A : Type 0} → (A → Bool) → List A → Bool
 any f [] = false
 any f (x ∷ xs) = f x || any f xs
 
+-- Some two elements pass a test, the first of which stands in front of the second; `two_false` and `of_no_two` (proofs/Lists) tie
+-- it to `Pairwise`.
+unfoldable pub any_two : {A : Type 0} → (A → A → Bool) → List A → Bool
+any_two f [] = false
+any_two f (x ∷ xs) = any (f x) xs || any_two f xs
+
 -- The elements that pass a test.
 unfoldable pub keep : {A : Type 0} → (A → Bool) → List A → List A
 keep f [] = []

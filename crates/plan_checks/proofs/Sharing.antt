@@ -2,7 +2,7 @@
 use Rattle.std.proofs.Common.{ℕ, ◌-◌, ◌≤◌, ◌<◌, Bool, false, ◌||◌, List, [], ◌∷◌, length, get_or, drop, take, eqb, ◌≡◌, refl, ap, sym, ◌∙◌, arith}
 use lib.Seq.{take_all}
 use Rattle.std.specs.List.{list_any}
-use Rattle.numbers.specs.Lists.{any}
+use Rattle.numbers.specs.Lists.{any, any_two}
 use Rattle.plan_checks.specs.Opening.{numbers_of}
 use Rattle.plan_record.specs.declared.Record.{Record}
 use Rattle.model.specs.Open.{shared}
@@ -20,7 +20,7 @@ behind rs = take (length rs - 1) (drop 1 rs)
 pub shared_next : (rs : List Record) (d : Record) → 1 ≤ length rs → (b v : Bool)
     → b ≡ list_any (λ (r : Record). eqb (get_or rs 0 d).number r.number) (behind rs) → b ≡ v
     → shared (numbers_of rs) ≡ (v || shared (numbers_of (behind rs)))
-unfolding shared
+unfolding any_two
 shared_next [] d h b v e t = absurd (omega arith)
 shared_next (r ∷ rs) d h b v e t =
     let all : behind (r ∷ rs) ≡ rs = take_all (length (r ∷ rs) - 1) rs (omega arith) in
@@ -29,6 +29,6 @@ shared_next (r ∷ rs) d h b v e t =
     rw (all, found) refl
 
 pub shared_none : (rs : List Record) → length rs < 1 → shared (numbers_of rs) ≡ false
-unfolding shared
+unfolding any_two
 shared_none [] h = refl
 shared_none (r ∷ rs) h = absurd (omega arith)

@@ -11,7 +11,7 @@ use Rattle.numbers.specs.Sums.{top}
 use Rattle.footprint.specs.declared.Limits.{Limits}
 use Rattle.numbers.specs.Lists.{written}
 use Rattle.plan_checks.specs.Opening.{records_of}
-use Rattle.plan_open.specs.Accounts.{tag_of, size_of, len_of, UsageIn, Room}
+use Rattle.plan_open.specs.Accounts.{tag_of, size_of, len_of, UsageIn, HasPlaces}
 use Rattle.plan_open.specs.Build.{Rows}
 use Rattle.plan_record.specs.Plan.{blank_region, past_region}
 use Rattle.plan_record.specs.Record.{record_of}
@@ -100,7 +100,7 @@ module _ (f : model.Record → ℕ) (done : List Record) (one : Record) where
 
 module _ {lim : Limits} {rs rest : List Record} {tags₀ tags logical₀ logical physical₀ physical : List ℕ} {n : ℕ}
     (g : Using lim rs rest tags₀ tags logical₀ logical physical₀ physical n)
-    (r : Room (length rs) (length tags₀) (length logical₀) (length physical₀)) where
+    (r : HasPlaces (length rs) (length tags₀) (length logical₀) (length physical₀)) where
   -- one more stands behind what is then left
   module _ (left : List Record) (one : Record) (e : rest ≡ left ++ (one ∷ [])) (i m : ℕ) (p : i ≡ n) (q : m ≡ n + 1) where
     behind : left ++ (one ∷ g.done) ≡ rs

@@ -33,7 +33,7 @@ pub record UsageIn (lim : Limits) (rs : List Record) (tags₀ tags logical₀ lo
   pub all_physical : physical ≡ written (map (len_of lim) rs) physical₀
 
 -- The lists have places for n.
-pub record Room (n tags logical physical : ℕ) : Type 0 where
+pub record HasPlaces (n tags logical physical : ℕ) : Type 0 where
   pub few : n ≤ 64
   pub for_tags : n ≤ tags
   pub for_logical : n ≤ logical

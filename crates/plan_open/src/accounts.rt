@@ -1,7 +1,7 @@
 // The accounts of the records.
 ghost use Rattle.std.specs.Prelude.{◌≡◌, ◌≤◌, length, reverse};
 ghost use Rattle.plan_checks.specs.Opening.{records_of};
-ghost use Rattle.plan_open.specs.Accounts.{UsageIn, Room, Accounted};
+ghost use Rattle.plan_open.specs.Accounts.{UsageIn, HasPlaces, Accounted};
 
 use accounting::Accounting;
 use footprint::{Limits, block_of};
@@ -16,7 +16,7 @@ fn list_usage(
     logical: &mut [u64],
     physical: &mut [u64],
 )
-    requires { (limits.log2_block ≤ 16) × Room (length records.now) (length tags.old) (length logical.old) (length physical.old) }
+    requires { (limits.log2_block ≤ 16) × HasPlaces (length records.now) (length tags.old) (length logical.old) (length physical.old) }
     ensures { UsageIn limits (reverse (records_of records.now)) tags.old tags.new logical.old logical.new physical.old physical.new }
 {
     let blocks = 2 * block_of(limits.log2_block);

@@ -10,7 +10,7 @@ use Rattle.model.specs.World.{World, held, free, physical, logical}
 use Rattle.numbers.specs.Refusals.{Answer, accepted, answer}
 use Rattle.plan_record.specs.Plan.{reply_of, Reply}
 use Rattle.plan_record.specs.declared.Outcome.{Outcome}
-use Rattle.position.specs.Position.{Room, RoomFor, Rooms, After, Position}
+use Rattle.position.specs.Position.{TellsRoom, RoomFor, Rooms, After, Position}
 use Rattle.position.specs.Runs.{Whole, Loan, Loans, Arguments, OpensWith, opening_with, with_plan, Run, Locates}
 use Rattle.model.proofs.Demand.{sound_demand}
 use Rattle.model.proofs.Opening.{opened_sound}
@@ -33,7 +33,7 @@ use Rattle.plan_record.proofs.Plan.physical.Met as physical_met
 
 -- ---- room
 
-told : {w : World} {tests : List ℕ} {n : ℕ} {c : Call} → model.Room w tests n c → Room w tests n (answer_to w c)
+told : {w : World} {tests : List ℕ} {n : ℕ} {c : Call} → model.Room w tests n c → TellsRoom w tests n (answer_to w c)
 told r = record { full = r.full; only_full = r.only_full; placed = r.placed }
 
 room_for : (w : World) → Sound w → (c : Call) → RoomFor w c (answer_to w c)

@@ -24,13 +24,13 @@ use Rattle.plan_record.proofs.Plan.logical.Statement as logical_code
 use Rattle.plan_record.proofs.Plan.physical.Statement as physical_code
 use Rattle.plan_record.specs.Plan.{reply_of, Reply}
 use Rattle.plan_record.specs.declared.Outcome.{Outcome}
-use Rattle.position.specs.Runs.{Whole, Loan, Loans, Arguments, OpensWith, opening_with, with_plan, Run, Locates, HeldTold, FreeTold, PhysicalTold, LogicalTold}
+use Rattle.position.specs.Runs.{Whole, Loan, Loans, Arguments, OpensWith, opening_with, with_plan, Run, Locates, TellsHeld, TellsFree, TellsPhysical, TellsLogical}
 
 -- ---- room
 
 -- Room is refused exactly when no span is free: of a call that wants n bytes, with the tests before that of room, in the world just
 -- before it, and the plan's answer to it.
-pub record Room (w : World) (tests : List ℕ) (n : ℕ) (a : Answer (Option ℕ)) : Type 0 where
+pub record TellsRoom (w : World) (tests : List ℕ) (n : ℕ) (a : Answer (Option ℕ)) : Type 0 where
   -- it passes every earlier check, and no span is free: refused for room
   pub full : first tests ≡ 0 → ((p : ℕ) → FreeSpan w n p → ⊥) → a ≡ refused 22
   -- refused for room: no span is free
@@ -40,8 +40,8 @@ pub record Room (w : World) (tests : List ℕ) (n : ℕ) (a : Answer (Option ℕ
 
 -- Of each create and grow in a list, with the answers to the list.
 abbrev pub RoomFor : World → Call → Answer (Option ℕ) → Type 0
-RoomFor w (create id tag name) a = Room w (create_tests w id tag name) (header_len w) a
-RoomFor w (grow id) a = Room w (grow_tests w id) (step_len w (region_in w id)) a
+RoomFor w (create id tag name) a = TellsRoom w (create_tests w id tag name) (header_len w) a
+RoomFor w (grow id) a = TellsRoom w (grow_tests w id) (step_len w (region_in w id)) a
 RoomFor w (publish id len) a = Unit {0}
 RoomFor w (drop id) a = Unit {0}
 RoomFor w (cap tag limit) a = Unit {0}
@@ -70,12 +70,12 @@ pub record After (w₀ : World) (cs : List Call) (ns : List (Answer (Option ℕ)
   -- a dropped number is unknown, so that one created again is another region
   pub forgets : (id : ℕ) → known (next w (drop id)) id ≡ false
   -- 4. held + free = length - table end: the plan's held is the sum of footprints, its free that of the gaps
-  pub held_is : (l : Loan) (r : ℕ) → HeldTold l h r → r ≡ held w
-  pub free_is : (l : Loan) (r : ℕ) → FreeTold l h r → r ≡ free w
-  pub figures : (l m : Loan) (r s : ℕ) → HeldTold l h r → FreeTold m h s → r + s ≡ w.limits.file_len - w.limits.table_end
+  pub held_is : (l : Loan) (r : ℕ) → TellsHeld l h r → r ≡ held w
+  pub free_is : (l : Loan) (r : ℕ) → TellsFree l h r → r ≡ free w
+  pub figures : (l m : Loan) (r s : ℕ) → TellsHeld l h r → TellsFree m h s → r + s ≡ w.limits.file_len - w.limits.table_end
   -- 5. tag totals, of every tag, one without a row included: "physical totals count footprints, logical ones published lengths"
-  pub physical_is : (l : Loan) (tag r : ℕ) → PhysicalTold l h tag r → r ≡ physical w tag
-  pub logical_is : (l : Loan) (tag r : ℕ) → LogicalTold l h tag r → r ≡ logical w tag
+  pub physical_is : (l : Loan) (tag r : ℕ) → TellsPhysical l h tag r → r ≡ physical w tag
+  pub logical_is : (l : Loan) (tag r : ℕ) → TellsLogical l h tag r → r ≡ logical w tag
   -- 6. a create or grow that passes every earlier check is refused for room exactly when no span is free, just before it
   pub rooms : Rooms w₀ cs ns
 

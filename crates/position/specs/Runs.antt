@@ -123,17 +123,17 @@ Locates l h id pos n r =
     (show l.plan h.plan, (show l.starts h.starts, (show l.files h.files, (id, (pos, (n, tt))))))
 
 -- The figures read the record: `held(plan)`, `free(plan)`, `physical(plan, tag)` and `logical(plan, tag)`.
-abbrev pub HeldTold : Loan → Whole → ℕ → Type 0
-HeldTold l h r = held_reads.Learnt (l.lifetime, tt) (show l h.plan, tt) r (show l h.plan, tt)
+abbrev pub TellsHeld : Loan → Whole → ℕ → Type 0
+TellsHeld l h r = held_reads.Learnt (l.lifetime, tt) (show l h.plan, tt) r (show l h.plan, tt)
 
-abbrev pub FreeTold : Loan → Whole → ℕ → Type 0
-FreeTold l h r = free_reads.Learnt (l.lifetime, tt) (show l h.plan, tt) r (show l h.plan, tt)
+abbrev pub TellsFree : Loan → Whole → ℕ → Type 0
+TellsFree l h r = free_reads.Learnt (l.lifetime, tt) (show l h.plan, tt) r (show l h.plan, tt)
 
-abbrev pub PhysicalTold : Loan → Whole → (tag r : ℕ) → Type 0
-PhysicalTold l h tag r = physical_reads.Learnt (l.lifetime, tt) (show l h.plan, (tag, tt)) r (show l h.plan, (tag, tt))
+abbrev pub TellsPhysical : Loan → Whole → (tag r : ℕ) → Type 0
+TellsPhysical l h tag r = physical_reads.Learnt (l.lifetime, tt) (show l h.plan, (tag, tt)) r (show l h.plan, (tag, tt))
 
-abbrev pub LogicalTold : Loan → Whole → (tag r : ℕ) → Type 0
-LogicalTold l h tag r = logical_reads.Learnt (l.lifetime, tt) (show l h.plan, (tag, tt)) r (show l h.plan, (tag, tt))
+abbrev pub TellsLogical : Loan → Whole → (tag r : ℕ) → Type 0
+TellsLogical l h tag r = logical_reads.Learnt (l.lifetime, tt) (show l h.plan, (tag, tt)) r (show l h.plan, (tag, tt))
 
 -- ---- lists of calls
 

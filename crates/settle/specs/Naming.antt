@@ -7,22 +7,22 @@ use Rattle.settle.specs.Regions.{Lent}
 abbrev pub name_at : Lent → ℕ → List ℕ
 name_at rs j = take (get_or rs.lens j 0) (drop (24 * j) rs.names)
 
--- A number made of a name's bytes: names with different tags are different.
-unfoldable pub tag_from : ℕ → List ℕ → ℕ
-tag_from tag [] = tag
-tag_from tag (b ∷ bs) = tag_from ((tag * 33 + b) % 2147483647) bs
+-- A number made of a name's bytes: names with different hashes are different.
+unfoldable pub hash_from : ℕ → List ℕ → ℕ
+hash_from hash [] = hash
+hash_from hash (b ∷ bs) = hash_from ((hash * 33 + b) % 2147483647) bs
 
-abbrev pub tag_of : List ℕ → ℕ
-tag_of name = tag_from 0 name
+abbrev pub hash_of : List ℕ → ℕ
+hash_of name = hash_from 0 name
 
--- The tags of the names of at most 24 bytes among the first count.
-abbrev pub Tagged : Lent → ℕ → List ℕ → Type 0
-Tagged rs count tags = (j : ℕ) → j < count → get_or rs.lens j 0 ≤ 24 → get_or tags j 0 ≡ tag_of (name_at rs j)
+-- The hashes of the names of at most 24 bytes among the first count.
+abbrev pub Hashed : Lent → ℕ → List ℕ → Type 0
+Hashed rs count hashes = (j : ℕ) → j < count → get_or rs.lens j 0 ≤ 24 → get_or hashes j 0 ≡ hash_of (name_at rs j)
 
--- Records with the tags of their names.
-pub record Listed (rs : Lent) (tags : List ℕ) : Type 0 where
-  pub tags_in : rs.count ≤ length tags
-  pub tagged : Tagged rs rs.count tags
+-- Records with the hashes of their names.
+pub record Listed (rs : Lent) (hashes : List ℕ) : Type 0 where
+  pub hashes_in : rs.count ≤ length hashes
+  pub hashed : Hashed rs rs.count hashes
 
 -- The record j is not the record skip, has the name, and no lower number than seq.
 unfoldable pub rivals : Lent → (skip seq : ℕ) → List ℕ → ℕ → Bool

@@ -63,17 +63,17 @@ pub fn settle(
         records: unavailable,
     };
     let found = strike(usable, unavailable, &mut scratch[0..4 * n]);
-    let mut tags = [0u64; 1024];
-    usable.tag_names(&mut tags);
-    let mut own_tags = [0u64; 1024];
-    unavailable.tag_names(&mut own_tags);
+    let mut hashes = [0u64; 1024];
+    usable.hash_names(&mut hashes);
+    let mut own_hashes = [0u64; 1024];
+    unavailable.hash_names(&mut own_hashes);
     let usable = Named {
         complete: usable,
-        tags: &tags,
+        hashes: &hashes,
     };
     let unavailable = Named {
         complete: unavailable,
-        tags: &own_tags,
+        hashes: &own_hashes,
     };
     write_marks(usable, unavailable, &found, marks);
     Ok(())

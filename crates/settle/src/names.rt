@@ -1,51 +1,51 @@
-// Which usable records are renamed. Names are told apart by a tag of their bytes; only where two
-// tags are the same are the bytes compared.
+// Which usable records are renamed. Names are told apart by a hash of their bytes; only where two
+// hashes are the same are the bytes compared.
 ghost use Rattle.std.specs.Prelude.{◌≡◌, ◌+◌, ◌*◌, ◌<◌, ◌≤◌, ℕ, eqb, count_by, length, get_or};
 ghost use Rattle.numbers.specs.Lists.{same};
-ghost use Rattle.settle.specs.Naming.{tag_of, Tagged, Listed, rivals, any_below, outdone};
+ghost use Rattle.settle.specs.Naming.{hash_of, Hashed, Listed, rivals, any_below, outdone};
 ghost use Rattle.settle.specs.Regions.{lent_of};
 
 use crate::complete::Complete;
 
-// The records of one kind with the tags of their names.
+// The records of one kind with the hashes of their names.
 #[derive(Clone, Copy)]
 pub struct Named<'a, 'b> {
     pub complete: Complete<'a>,
-    pub tags: &'b [u64],
-    ghost listed: { Listed (lent_of complete.records) tags.now },
+    pub hashes: &'b [u64],
+    ghost listed: { Listed (lent_of complete.records) hashes.now },
 }
 
-// What is looked for: a name, with its tag, of this number or a higher one, at another place than skip.
+// What is looked for: a name, with its hash, of this number or a higher one, at another place than skip.
 #[derive(Clone, Copy)]
 pub struct Wanted<'a> {
     pub name: &'a [u8],
-    pub tag: u64,
+    pub hash: u64,
     pub seq: u64,
     pub skip: usize,
 }
 
 // A number made of a name's bytes.
-fn tag_of(name: &[u8]) -> u64
-    ensures { result ≡ tag_of name.now }
+fn hash_of(name: &[u8]) -> u64
+    ensures { result ≡ hash_of name.now }
 {
-    let mut tag: u64 = 0;
+    let mut hash: u64 = 0;
     for byte in name {
-        tag = (tag * 33 + *byte as u64) % 0x7fff_ffff;
+        hash = (hash * 33 + *byte as u64) % 0x7fff_ffff;
     }
-    tag
+    hash
 }
 
 impl Complete<'_> {
-    // Fills tags for the records; of a record with no name the tag stays.
-    pub(crate) fn tag_names(self, tags: &mut [u64])
-        requires { self.records.count ≤ length tags.old }
-        ensures { Tagged (lent_of self.entry.records) self.entry.records.count tags.new }
+    // Fills hashes for the records; of a record with no name the hash stays.
+    pub(crate) fn hash_names(self, hashes: &mut [u64])
+        requires { self.records.count ≤ length hashes.old }
+        ensures { Hashed (lent_of self.entry.records) self.entry.records.count hashes.new }
     {
         let records = self.records;
         for i in 0..records.count {
             let len = records.lens[i] as usize;
             if len <= 24 {
-                tags[i] = tag_of(&records.names[24 * i..24 * i + len]);
+                hashes[i] = hash_of(&records.names[24 * i..24 * i + len]);
             }
         }
     }
@@ -69,14 +69,14 @@ impl Complete<'_> {
     }
 }
 
-// How many of the tags are this one. Nothing but the count depends on a test, so that the compiler
-// compares several tags at a time; of `filter` and `count` it makes code for one at a time.
-fn alike(tag: u64, tags: &[u64]) -> usize
-    ensures { result ≡ count_by (λ (other : ℕ). eqb other tag) tags.now }
+// How many of the hashes are this one. Nothing but the count depends on a test, so that the compiler
+// compares several hashes at a time; of `filter` and `count` it makes code for one at a time.
+fn alike(hash: u64, hashes: &[u64]) -> usize
+    ensures { result ≡ count_by (λ (other : ℕ). eqb other hash) hashes.now }
 {
     let mut n = 0;
-    for other in tags {
-        if *other == tag {
+    for other in hashes {
+        if *other == hash {
             n += 1;
         }
     }
@@ -86,18 +86,18 @@ fn alike(tag: u64, tags: &[u64]) -> usize
 impl Named<'_, '_> {
     // Whether a record at another place than skip has the name and no lower number.
     fn search(self, wanted: Wanted<'_>) -> bool
-        requires { (length wanted.name.now ≤ 24) × (wanted.tag ≡ tag_of wanted.name.now) × (wanted.skip ≤ self.complete.records.count) }
+        requires { (length wanted.name.now ≤ 24) × (wanted.hash ≡ hash_of wanted.name.now) × (wanted.skip ≤ self.complete.records.count) }
         ensures { result ≡ any_below (rivals (lent_of self.entry.complete.records) wanted.entry.skip wanted.entry.seq wanted.entry.name.now) self.entry.complete.records.count }
     {
         let count = self.complete.records.count;
         let behind = count.min(wanted.skip + 1);
-        if alike(wanted.tag, &self.tags[..wanted.skip]) == 0 {
-            if alike(wanted.tag, &self.tags[behind..count]) == 0 {
+        if alike(wanted.hash, &self.hashes[..wanted.skip]) == 0 {
+            if alike(wanted.hash, &self.hashes[behind..count]) == 0 {
                 return false;
             }
         }
         for j in 0..count {
-            if self.tags[j] == wanted.tag {
+            if self.hashes[j] == wanted.hash {
                 if self.complete.rival(wanted, j) {
                     return true;
                 }
@@ -115,7 +115,7 @@ impl Named<'_, '_> {
         let len = usable.lens[i] as usize;
         let wanted = Wanted {
             name: &usable.names[24 * i..24 * i + len],
-            tag: self.tags[i],
+            hash: self.hashes[i],
             seq: usable.seqs[i],
             skip: i,
         };

@@ -46,11 +46,11 @@ invariant_of-usable c = record { enough = (ok (goal.at.invariant_of-usable c).El
 pub invariant_of-unavailable : goal.invariant_of-unavailable
 invariant_of-unavailable c = record { enough = (ok (goal.at.invariant_of-unavailable c).Else-settle_fails).theirs }
 
-pub tag_names-requires : goal.tag_names-requires
-tag_names-requires c = array_room {A = ℕ} 0 (ours (goal.at.tag_names-requires c).Else-settle_fails) (ok (goal.at.tag_names-requires c).Else-settle_fails).ours
+pub hash_names-requires : goal.hash_names-requires
+hash_names-requires c = array_room {A = ℕ} 0 (ours (goal.at.hash_names-requires c).Else-settle_fails) (ok (goal.at.hash_names-requires c).Else-settle_fails).ours
 
-pub tag_names-requires-2 : goal.tag_names-requires-2
-tag_names-requires-2 c = array_room {A = ℕ} 0 (theirs (goal.at.tag_names-requires-2 c).Else-settle_fails) (ok (goal.at.tag_names-requires-2 c).Else-settle_fails).theirs
+pub hash_names-requires-2 : goal.hash_names-requires-2
+hash_names-requires-2 c = array_room {A = ℕ} 0 (theirs (goal.at.hash_names-requires-2 c).Else-settle_fails) (ok (goal.at.hash_names-requires-2 c).Else-settle_fails).theirs
 
 pub write_marks-requires : goal.write_marks-requires
 write_marks-requires c = let g = ok (goal.at.write_marks-requires c).Else-settle_fails in

@@ -1,4 +1,4 @@
--- `settle::names::Named::search` meets its contract: where no other tag is alike there is nothing to search; else no record in front of j is a rival.
+-- `settle::names::Named::search` meets its contract: where no other hash is alike there is nothing to search; else no record in front of j is a rival.
 use mathlib.Core.Path.{sym, ◌∙◌}
 use native.Mathlib.Omega.{arith}
 use Rattle.settle.specs.Regions.{lent_of}

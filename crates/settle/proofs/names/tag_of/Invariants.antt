@@ -1,5 +1,0 @@
-use Rattle.settle.proofs.Naming.{Mixed}
-use Rattle.settle.proofs.names.tag_of.Given as goal
-
-abbrev pub invariant-loop-byte : goal.invariant-loop-byte
-invariant-loop-byte l = Mixed l.name l.byte-index l.tag
