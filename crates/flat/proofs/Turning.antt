@@ -1,17 +1,14 @@
 -- Rows turned into other rows one by one, and back.
 use Rattle.std.specs.Prelude.{None, Option, Some}
-use Prim.Native.Nat.{ℕ}
-use denote.Param.Members.{Mut}
+use Prim.Native.Nat.{ℕ, ◌≤◌}
 use mathlib.Core.List.{List, [], ◌∷◌, map}
-use mathlib.Core.Path.{◌≡◌, refl, sym, ◌∙◌}
+use mathlib.Core.Path.{◌≡◌, refl, ap, sym, ◌∙◌}
 use native.Mathlib.Omega.{arith}
-use lib.ListN.{length, get_or-map}
-use Rattle.std.proofs.lemmas.List.{ext_get_or, length-map}
-use Rattle.std.specs.Array.{IsMapOf}
+use lib.ListN.{length, take}
+use Rattle.std.proofs.lemmas.List.{take_all}
 use Rattle.std.specs.Result.{result_unwrap_or}
 use borrow.Author.Tests.{ne_eqb}
 use Rattle.numbers.proofs.Cases.{by_eq}
-use Rattle.std.specs.Fn.{Called}
 use Rattle.accounting.specs.declared.Accounting.{Accounting}
 use Rattle.flat.specs.Flat.{kind_of, cap_from, is_capped, limit_of, row_from, flat_row, accounts_from, flat_accounts}
 use Rattle.footprint.specs.Footprint.{kind_code, kind_in}
@@ -19,15 +16,10 @@ use Rattle.footprint.specs.declared.RegionKind.{RegionKind}
 use Rattle.footprint.specs.declared.RegionKind.TheVariants.{Append, Page, Slot}
 use Rattle.tagspace.specs.declared.TagSpace.{TagSpace}
 
-module _ {F A B : Type 0} {g : Mut F (A × Unit {0}) B} {f : F} (h : A → B) where
-  -- what `map` of an array makes of it, where each call of the closure gives h of its argument
-  pub mapped : (xs : List A) (ys : List B) {n : ℕ} → IsMapOf g f xs ys n → length xs ≡ n → ((p : F) (x : A) (y : B) (q : F) → Called g p (x, tt) y q → y ≡ h x) → ys ≡ map h xs
-  mapped [] [] m l calls = refl
-  mapped [] (y ∷ ys) m l calls = let e = m.long in absurd (omega arith)
-  mapped (x ∷ xs) ys m l calls =
-      let all = x ∷ xs in
-      let e : length ys ≡ length (map h all) = m.long ∙ sym l ∙ sym (length-map all h) in
-      ext_get_or (h x) ys (map h all) e (λ i b. let c = m.at i x (h x) (omega (arith, m.long)) in calls _ _ _ _ c.2 ∙ sym (get_or-map h all i x))
+module _ {A B : Type 0} (h : A → B) where
+  -- where each of the first i items is h of the other list's, and there are no more
+  pub turned : (xs : List A) (ys : List B) {i n : ℕ} → length xs ≡ n → length ys ≡ n → n ≤ i → take i ys ≡ map h (take i xs) → ys ≡ map h xs
+  turned xs ys {i} l m k e = sym (take_all i ys (omega (arith, m, k))) ∙ e ∙ ap (map h) (take_all i xs (omega (arith, l, k)))
 
 -- nothing is lost in flat numbers
 cap_again : (c : Option ℕ) → cap_from (is_capped c) (limit_of c) ≡ c

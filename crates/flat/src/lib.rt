@@ -60,12 +60,15 @@ impl From<FlatRow> for TagSpace {
 impl From<FlatAccounting> for Accounting {
     ghost from_gives = { λ flat r. r ≡ accounts_from flat };
 
+    // No `map` of the rows, here and below: it clears and copies them all.
     fn from(flat: FlatAccounting) -> Accounting {
-        Accounting {
-            rows: flat.rows.map(TagSpace::from),
-            count: flat.count,
-            reserved: flat.reserved,
+        let mut accounts = Accounting::empty();
+        for i in 0..96 {
+            accounts.rows[i] = flat.rows[i].into();
         }
+        accounts.count = flat.count;
+        accounts.reserved = flat.reserved;
+        accounts
     }
 }
 
@@ -88,11 +91,16 @@ impl From<Accounting> for FlatAccounting {
     ghost from_gives = { λ accounts r. r ≡ flat_accounts accounts };
 
     fn from(accounts: Accounting) -> FlatAccounting {
-        FlatAccounting {
-            rows: accounts.rows.map(FlatRow::from),
+        let blank = FlatRow::from(TagSpace::blank(0));
+        let mut flat = FlatAccounting {
+            rows: [blank; 96],
             count: accounts.count,
             reserved: accounts.reserved,
+        };
+        for i in 0..96 {
+            flat.rows[i] = accounts.rows[i].into();
         }
+        flat
     }
 }
 

@@ -10,7 +10,7 @@ ghost use Rattle.std.specs.Prelude.{◌≡◌};
 ghost use Rattle.flat_plan.specs.Plan.{plan_from, flat_plan, flat_reply, flat_outcome};
 
 use flat::FlatAccounting;
-use footprint::Limits;
+use lent::turn;
 pub use opening::open;
 use plan_record::{Outcome, Plan, Region, Reply};
 pub use record::FlatRecord;
@@ -49,18 +49,11 @@ pub struct FlatOutcome {
 impl From<FlatPlan> for Plan {
     ghost from_gives = { λ flat r. r ≡ plan_from flat };
 
+    // No `map` of the regions, here and below: it clears and copies them all.
     fn from(flat: FlatPlan) -> Plan {
-        Plan {
-            limits: Limits {
-                log2_block: flat.log2_block,
-                table_end: flat.table_end,
-                file_len: flat.file_len,
-            },
-            last: flat.last,
-            count: flat.count,
-            regions: flat.regions.map(Region::from),
-            accounts: flat.accounts.into(),
-        }
+        let mut plan = Plan::blank();
+        flat.fill(&mut plan);
+        plan
     }
 }
 
@@ -69,15 +62,17 @@ impl From<Plan> for FlatPlan {
 
     fn from(plan: Plan) -> FlatPlan {
         let limits = plan.limits;
-        FlatPlan {
+        let mut flat = FlatPlan {
             log2_block: limits.log2_block,
             table_end: limits.table_end,
             file_len: limits.file_len,
             last: plan.last,
             count: plan.count,
-            regions: plan.regions.map(FlatRegion::from),
+            regions: [FlatRegion::from(Region::blank(0)); 64],
             accounts: plan.accounts.into(),
-        }
+        };
+        turn(&plan.regions, &mut flat.regions);
+        flat
     }
 }
 

@@ -5,6 +5,7 @@ ghost use Rattle.sort.specs.Sort.{Ascending};
 ghost use Rattle.footprint.specs.Inner.{neighbours_meet, LaidOut};
 
 use crate::{Entry, Limits, block_of};
+use numbers::copy;
 use sort::sort_pairs;
 
 // Whether a range begins before the one in front of it ends.
@@ -50,7 +51,7 @@ pub(crate) fn lay_out(limits: Limits, entry: Entry, extents: &[u64], s: &mut [u6
     s[2] = entry.header_b;
     s[3] = block;
     let committed = s.len() - 4;
-    s[4..].copy_from_slice(&extents[..committed]);
+    copy(&extents[..committed], &mut s[4..]);
     if apart(s) {
         return false;
     }

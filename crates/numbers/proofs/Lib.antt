@@ -12,3 +12,4 @@ pub mod Refusals
 pub mod Answers
 pub mod Halving
 pub mod Chunks
+pub mod Copying

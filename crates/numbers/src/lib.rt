@@ -1,7 +1,8 @@
 // What several crates want: a sum held against a limit, the step of a halving search, the test for a power
-// of two, pairs of a list, and the reasons for a refusal.
+// of two, pairs of a list, one list copied over another, and the reasons for a refusal.
 #![tactic(auto)]
 
+mod copied;
 mod paired;
 mod refusal;
 
@@ -9,6 +10,7 @@ ghost use Rattle.std.specs.Prelude.{cond, ◌≡◌, ◌+◌, ◌-◌, ltb};
 ghost use Rattle.numbers.specs.Sums.{stop};
 ghost use Rattle.numbers.specs.Powers.{is_power_of_two};
 
+pub use copied::copy;
 pub use paired::pairs_of;
 pub use refusal::{Refusal, number_in};
 

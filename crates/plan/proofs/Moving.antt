@@ -1,12 +1,11 @@
 -- The region at a place moved behind the others: what is left in front, and that no row is named twice.
-use Rattle.std.proofs.lemmas.Slice.{take-put_mid, drop-put_mid}
-use borrow.Rule.Slice.PartMut.{mid_of, put_mid}
 use Prim.Native.Nat.{ℕ, suc, ◌+◌, ◌-◌, ◌≤◌, ◌<◌}
 use mathlib.Core.List.{List, [], ◌∷◌, ◌++◌, map, map-append, append_assoc}
 use mathlib.Core.Path.{◌≡◌, ap, sym, subst, ◌∙◌}
+use native.Mathlib.Numerals.{add-one}
 use native.Mathlib.Omega.{arith}
-use lib.ListN.{length, take, drop, get_or, length-append, length-take, length-drop, length-map, take-append-drop}
-use lib.Seq.{drop-cons, length-take-le, take_at, drop_at, take-add}
+use lib.ListN.{length, take, drop, set, get_or, length-append, length-take, length-drop, length-map, take-append-drop}
+use lib.Seq.{drop-cons, set_at, take-suc, get_or-drop, get_or-append-add, length-take-le, take_at, drop_at, take-add}
 use Rattle.numbers.specs.Lists.{All, Distinct}
 use Rattle.plan_record.specs.Plan.{regions_of, past_region}
 use Rattle.plan_record.specs.declared.Plan.{Plan}
@@ -14,10 +13,90 @@ use Rattle.plan_record.specs.declared.Region.{Region}
 use Rattle.plan.specs.Inner.{moved, rotated}
 use Rattle.numbers.proofs.Lists.{pairwise_move, all_append, all_left, all_right}
 
+-- ---- the loop
+
 module _ (rs : List Region) where
   -- those in front of i, and the next m behind it
-  front_length : (i m : ℕ) → suc i + m ≤ length rs → length (take i rs ++ take m (drop (suc i) rs)) ≡ i + m
+  abbrev pub front : ℕ → ℕ → List Region
+  front i m = take i rs ++ take m (drop (suc i) rs)
+
+  pub front_length : (i m : ℕ) → suc i + m ≤ length rs → length (front i m) ≡ i + m
   front_length i m h = simp (length-append, length-take, length-drop) (omega arith)
+
+  front_next : (i m : ℕ) → suc i + m < length rs → front i (suc m) ≡ front i m ++ (get_or rs (suc i + m) past_region ∷ [])
+  front_next i m h =
+      let l : m < length (drop (suc i) rs) = simp length-drop (omega arith) in
+      ap (λ (t : List Region). take i rs ++ t) (take-suc (drop (suc i) rs) m past_region l ∙ rw (get_or-drop (suc i) rs m past_region))
+      ∙ sym (append_assoc (take i rs) (take m (drop (suc i) rs)) (get_or rs (suc i + m) past_region ∷ []))
+
+-- those behind i up to j have moved up by one
+pub record Moving (rs₀ rs : List Region) (i j last : ℕ) : Type 0 where
+  pub from : i ≤ j
+  pub upto : j ≤ last
+  pub inside : last < length rs₀
+  pub is : rs ≡ front rs₀ i (j - i) ++ drop j rs₀
+
+module _ {rs₀ : List Region} {i last : ℕ} where
+  pub moving_begins : i ≤ last → last < length rs₀ → Moving rs₀ rs₀ i i last
+  moving_begins h l =
+      record {
+        from = omega arith;
+        upto = h;
+        inside = l;
+        is =
+            let z : i - i ≡ 0 = omega arith in
+            sym (rw z (append_assoc (take i rs₀) [] (drop i rs₀) ∙ take-append-drop i rs₀));
+      }
+
+  module _ {rs : List Region} {j : ℕ} (g : Moving rs₀ rs i j last) where
+    long : length (front rs₀ i (j - i)) ≡ j
+    long = let a = g.from in let b = g.upto in let c = g.inside in let e = front_length rs₀ i (j - i) (omega arith) in omega arith
+
+    rest : drop j rs₀ ≡ get_or rs₀ j past_region ∷ drop (suc j) rs₀
+    rest = drop-cons rs₀ j past_region (let b = g.upto in let c = g.inside in omega arith)
+
+    set_here : (x : Region) → set rs j x ≡ front rs₀ i (j - i) ++ (x ∷ drop (suc j) rs₀)
+    set_here x = ap (λ (l : List Region). set l j x) (g.is ∙ ap (λ (l : List Region). front rs₀ i (j - i) ++ l) rest) ∙ set_at (front rs₀ i (j - i)) (get_or rs₀ j past_region) (drop (suc j) rs₀) x j long
+
+    -- what stands behind j has not moved
+    next_is : get_or rs (j + 1) past_region ≡ get_or rs₀ (j + 1) past_region
+    next_is =
+        let e : j + 1 ≡ length (front rs₀ i (j - i)) + 1 = omega (arith, long) in
+        ap (λ (l : List Region). get_or l (j + 1) past_region) g.is
+        ∙ ap (λ (n : ℕ). get_or (front rs₀ i (j - i) ++ drop j rs₀) n past_region) e
+        ∙ get_or-append-add (front rs₀ i (j - i)) (drop j rs₀) 1 past_region
+        ∙ get_or-drop j rs₀ 1 past_region
+
+    pub moving_turns : j < last → Moving rs₀ (set rs j (get_or rs (j + 1) past_region)) i (j + 1) last
+    moving_turns h =
+        let a = g.from in
+        let c = g.inside in
+        let m : j + 1 - i ≡ suc (j - i) = omega arith in
+        let n : suc i + (j - i) ≡ j + 1 = omega arith in
+        record {
+          from = omega arith;
+          upto = omega arith;
+          inside = c;
+          is =
+              set_here (get_or rs (j + 1) past_region)
+              ∙ rw (next_is, m, front_next rs₀ i (j - i) (omega arith), n, add-one j)
+              (sym (append_assoc (front rs₀ i (j - i)) (get_or rs₀ (suc j) past_region ∷ []) (drop (suc j) rs₀)));
+        }
+
+    pub moving_ends : last ≤ j → set rs last (get_or rs₀ i past_region) ≡ moved i (suc last) rs₀
+    unfolding moved
+    moving_ends h =
+        let e : last ≡ j = omega (arith, g.upto) in
+        let z : suc j - suc i ≡ j - i = omega arith in
+        rw e (rw z (set_here (get_or rs₀ i past_region)))
+
+-- the plan that is handed back
+pub rotated_is : (p q : Plan) (i j m : ℕ) → m ≡ length (regions_of p) → 0 < m → Moving p.regions q.regions i j (m - 1) → m - 1 ≤ j
+    → q.limits ≡ p.limits → q.last ≡ p.last → q.accounts ≡ p.accounts
+    → record { limits = q.limits; last = q.last; count = m - 1; regions = set q.regions (m - 1) (get_or p.regions i past_region); accounts = q.accounts } ≡ rotated p i
+rotated_is p q i j m e z g h a b c =
+    let k : suc (m - 1) ≡ m = omega arith in
+    rw (a, b, c, moving_ends g h, k, e)
 
 -- ---- what is in front, and all of them
 
@@ -37,21 +116,6 @@ module _ (rs : List Region) (i n : ℕ) (h : i < n) (l : n ≤ length rs) where
   whole_split : rs ≡ take i rs ++ (x ∷ (between ++ drop n rs))
   whole_split =
       sym (take-append-drop n rs) ∙ ap (λ (t : List Region). t ++ drop n rs) counted_split ∙ append_assoc (take i rs) (x ∷ between) (drop n rs)
-
-  -- the part from i to n turned by one, in its place
-  pub turned : (ys : List Region) → ys ≡ drop 1 (mid_of i (n - i) rs) ++ take 1 (mid_of i (n - i) rs) → put_mid i (n - i) rs ys ≡ moved i n rs
-  unfolding moved
-  turned ys e =
-      let a : mid_of i (n - i) rs ≡ x ∷ between =
-      let k : n - i ≡ suc (n - suc i) = omega arith in
-      ap (λ (t : List Region). take (n - i) t) (drop-cons rs i past_region (omega arith)) ∙ ap (λ (m : ℕ). take m (x ∷ drop (suc i) rs)) k in
-      let y : ys ≡ between ++ (x ∷ []) = e ∙ ap (λ (t : List Region). drop 1 t ++ take 1 t) a in
-      let m : length between ≡ n - suc i = simp (length-take, length-drop) (omega arith) in
-      let k : length ys ≡ n - i = ap length y ∙ length-append between (x ∷ []) ∙ omega arith in
-      sym (take-append-drop n (put_mid i (n - i) rs ys))
-      ∙ rw (take-put_mid i (n - i) rs ys n (omega arith) (omega arith), drop-put_mid i (n - i) rs ys n (omega arith) (omega arith) k)
-      (rw y (append_assoc (take i rs) (between ++ (x ∷ [])) (drop n rs) ∙ ap (λ (t : List Region). take i rs ++ t)
-      (append_assoc between (x ∷ []) (drop n rs)) ∙ sym (append_assoc (take i rs) between (x ∷ drop n rs))))
 
   pub moved_front : take (n - 1) (moved i n rs) ≡ take i rs ++ between
   unfolding moved
@@ -97,8 +161,3 @@ module _ (rs : List Region) (i n : ℕ) (h : i < n) (l : n ≤ length rs) where
       let q : map f ((take i rs ++ between) ++ (x ∷ drop n rs)) ≡ (A ++ B) ++ (f x ∷ C) =
       map-append f (take i rs ++ between) (x ∷ drop n rs) ∙ ap (λ (t : List ℕ). t ++ (f x ∷ C)) (map-append f (take i rs) between) in
       subst Distinct (sym q) (pairwise_move (λ (a b : ℕ). a ≡ b → ⊥) (λ a b u w. u (sym w)) A (f x) B C (subst Distinct e d))
-
--- the plan that is handed back
-pub rotated_is : (p : Plan) (i m : ℕ) → m ≡ length (regions_of p) → m ≤ length p.regions → i < m → (ys : List Region) → ys ≡ drop 1 (mid_of i (m - i) p.regions) ++ take 1 (mid_of i (m - i) p.regions)
-    → record { limits = p.limits; last = p.last; count = m - 1; regions = put_mid i (m - i) p.regions ys; accounts = p.accounts } ≡ rotated p i
-rotated_is p i m e l h ys t = rw (turned p.regions i m h l ys t, e)

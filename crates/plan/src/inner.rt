@@ -83,14 +83,19 @@ pub(crate) fn lists_short(extents: usize, starts: usize, files: usize) -> bool
     extents / 2 < 3840 || starts < 3840 || files < 3840
 }
 
-// Takes the region at place i out of the plan: those behind it move up, and its row is free.
+// Takes the region at place i out of the plan: those behind it move up, and its row is free. No `rotate_left`: it calls
+// memmove, which an archive for C would ask of its user.
 pub(crate) fn rotate(plan: &mut Plan, i: usize)
     requires { i < length (regions_of plan.old) }
     ensures { plan.new ≡ rotated plan.old i }
 {
-    let count = plan.counted();
-    plan.regions[i..count].rotate_left(1);
-    plan.count = count - 1;
+    let last = plan.counted() - 1;
+    let gone = plan.regions[i];
+    for j in i..last {
+        plan.regions[j] = plan.regions[j + 1];
+    }
+    plan.regions[last] = gone;
+    plan.count = last;
 }
 
 // Why create is refused before room is looked for, if it is.

@@ -4,6 +4,7 @@ ghost use Rattle.numbers.specs.Pairs.{pairs};
 ghost use Rattle.plan_open.specs.Rows.{Mappable, RowMap, Fit, Rowed};
 ghost use Rattle.plan_record.specs.Record.{record_of};
 
+use numbers::copy;
 use plan_record::{Record, Region};
 use regionmap::RegionMap;
 
@@ -33,7 +34,7 @@ pub(crate) fn fill_row(
 {
     let entry = one.entry;
     let committed = &own[..2 * entry.extent_count as usize];
-    extents[..committed.len()].copy_from_slice(committed);
+    copy(committed, extents);
     let map = map_row(committed, entry.data_size, starts, files);
     Region {
         number: one.number,

@@ -6,6 +6,7 @@ ghost use Rattle.plan_record.specs.Inner.{has_name};
 ghost use Rattle.plan_record.specs.Promises.{Named};
 
 use crate::{Plan, Region};
+use numbers::copy;
 
 // A name at the front of 24 bytes. A record from outside may say that it is longer.
 #[derive(Clone, Copy)]
@@ -31,7 +32,7 @@ impl Name {
     {
         let len = name.len().min(24);
         let mut bytes = [0u8; 24];
-        bytes[..len].copy_from_slice(&name[..len]);
+        copy(name, &mut bytes);
         Name {
             bytes,
             len: len as u8,

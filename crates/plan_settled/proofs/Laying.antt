@@ -36,7 +36,7 @@ committed_flat r xs h =
 
 module _ (lim : Limits) (r : model.Record) (xs : List ℕ) (block : ℕ) where
   -- four numbers, and a list copied behind them
-  abbrev headed : List ℕ → List ℕ
+  abbrev pub headed : List ℕ → List ℕ
   headed s = set (set (set (set s 0 r.entry.header_a) 1 block) 2 r.entry.header_b) 3 block
 
   behind_four : (s ys : List ℕ) (k : ℕ) → length s ≡ k + 4 → put_mid 4 k (headed s) ys

@@ -9,6 +9,7 @@ ghost use Rattle.plan_record.specs.Record.{record_of};
 ghost use Rattle.plan_settled.specs.Settled.{Layable, regions_in};
 
 use footprint::{Limits, block_of};
+use numbers::copy;
 use plan_checks::Opening;
 use plan_record::Record;
 
@@ -24,7 +25,7 @@ fn lay(limits: Limits, one: Record, own: &[u64], s: &mut [u64])
     s[2] = one.entry.header_b;
     s[3] = block;
     let committed = s.len() - 4;
-    s[4..].copy_from_slice(&own[..committed]);
+    copy(&own[..committed], &mut s[4..]);
 }
 
 // Fills the front of s with the footprints of all records.

@@ -5,6 +5,7 @@ ghost use Rattle.std.specs.Prelude.{◌<◌};
 
 use accounting::{Accounting, Asked, Posted};
 use numbers::{Refusal, number_in};
+use sample::Number;
 use sample::words::{at, converted, has, nth_list, past, past_lists, whole};
 use tagspace::{TagSpace, extent_len};
 
@@ -59,19 +60,16 @@ struct Call<'a> {
     second: &'a [u64],
     third: &'a [u64],
     due: &'a [u64],
+    known: bool,
 }
 
-// The call, where it is one of the thirteen, its tags are tags, its states are bytes, there is room for
-// both, and a cap is one or none.
-fn read(call: &[u64]) -> Option<Call<'_>> {
+// The call. One that is not known is made all the same, with its numbers cut, and of a cap where it is none of the
+// thirteen: what follows it is asked of the accounts that it leaves.
+fn read(call: &[u64]) -> Call<'_> {
     let lists = past(call, 5);
-    let kind = Kind::try_from(at(call, 0)).ok()?;
-    let fits = whole(lists, 0, 0, 128, 0xffff_ffff)
-        && (kind != Kind::FromEntries || whole(lists, 0, 2, 128, 255))
-        && (kind != Kind::SetCap || at(call, 2) <= 1);
-    let call = Call {
-        kind,
-        tag: u32::try_from(at(call, 1)).ok()?,
+    Call {
+        kind: Kind::try_from(at(call, 0)).unwrap_or(Kind::SetCap),
+        tag: u32::of(at(call, 1)),
         a: at(call, 2),
         b: at(call, 3),
         c: at(call, 4),
@@ -79,19 +77,25 @@ fn read(call: &[u64]) -> Option<Call<'_>> {
         second: nth_list(lists, 0, 1),
         third: nth_list(lists, 0, 2),
         due: past_lists(lists, 0, 3),
-    };
-    fits.then_some(call)
+        known: Kind::try_from(at(call, 0)).is_ok_and(|kind| known(kind, call)),
+    }
+}
+
+// Whether a call's tags are tags, its states are bytes, there is room for both, and a cap is one or none.
+fn known(kind: Kind, call: &[u64]) -> bool {
+    u32::try_from(at(call, 1)).is_ok()
+        && whole(call, 5, 0, 128, 0xffff_ffff)
+        && (kind != Kind::FromEntries || whole(call, 5, 2, 128, 255))
+        && (kind != Kind::SetCap || at(call, 2) <= 1)
 }
 
 // The accounts after a call; answers whether the call was answered alike.
 pub(crate) fn replay(accounts: &mut Accounting, call: &[u64]) -> bool {
-    let Some(call) = read(call) else {
-        return false;
-    };
+    let call = read(call);
     let row = accounts.row(call.tag);
     let answer = answered(call, *accounts);
     *accounts = answer.accounts;
-    alike(call, answer) && alone_alike(call, row, answer.told.is_ok())
+    call.known && alike(call, answer) && alone_alike(call, row, answer.told.is_ok())
 }
 
 // A call's answer, with a value where it is so, and the accounts after it.

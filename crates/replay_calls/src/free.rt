@@ -34,13 +34,14 @@ struct Call<'a> {
     slots: u64,
     ranges: &'a [u64],
     due: &'a [u64],
+    known: bool,
 }
 
-// The call, where it is one of the three, and there are as many slots and ranges as it says.
+// The call, where it is one of the three. It is known where there are as many slots and ranges as it says; one that is not
+// is made all the same: what follows it is asked of the map that it leaves.
 fn read(call: &[u64]) -> Option<Call<'_>> {
     let lists = past(call, 5);
-    let fits = at(call, 4) <= 64 && whole(lists, 0, 0, 64, u64::MAX);
-    let call = Call {
+    Some(Call {
         kind: Kind::try_from(at(call, 0)).ok()?,
         a: at(call, 1),
         b: at(call, 2),
@@ -48,8 +49,8 @@ fn read(call: &[u64]) -> Option<Call<'_>> {
         slots: at(call, 4),
         ranges: list(lists),
         due: past_list(lists),
-    };
-    fits.then_some(call)
+        known: at(call, 4) <= 64 && whole(lists, 0, 0, 64, u64::MAX),
+    })
 }
 
 #[derive(Clone, Copy)]
@@ -136,7 +137,8 @@ fn alike(
 ) -> bool {
     let due = call.due;
     let gaps = past(past(due, 3), ranges.len() as u64);
-    has(due, 0, &[number_in(answer.told)])
+    call.known
+        && has(due, 0, &[number_in(answer.told)])
         && has(due, 1, &answer.numbers)
         && has(due, 3, ranges)
         && gaps_alike(written(call, answer), gaps, before, after)

@@ -43,21 +43,28 @@ struct Call<'a> {
     places: u64,
     list: &'a [u64],
     due: &'a [u64],
+    known: bool,
 }
 
-// The call, where it is one of the seven, and is lent no more places than there are.
-fn read(call: &[u64]) -> Option<Call<'_>> {
+// The call. One that is not known is made all the same, as an extension where it is none of the seven: what follows it is
+// asked of the map that it leaves.
+fn read(call: &[u64]) -> Call<'_> {
     let lists = past(call, 4);
-    let call = Call {
-        kind: Kind::try_from(at(call, 0)).ok()?,
+    Call {
+        kind: Kind::try_from(at(call, 0)).unwrap_or(Kind::Extend),
         a: at(call, 1),
         b: at(call, 2),
         places: at(call, 3),
         list: list(lists),
         due: past_list(lists),
-    };
-    let fits = call.places <= 64 && (call.kind != Kind::Runs || call.a <= 160);
-    fits.then_some(call)
+        known: known(call),
+    }
+}
+
+// Whether a call is one of the seven, and is lent no more places than there are.
+fn known(call: &[u64]) -> bool {
+    Kind::try_from(at(call, 0)).is_ok_and(|kind| kind != Kind::Runs || at(call, 1) <= 160)
+        && at(call, 3) <= 64
 }
 
 #[derive(Clone, Copy)]
@@ -85,9 +92,7 @@ impl RegionState {
 
     // The state after a call; answers whether the call was answered alike.
     pub(crate) fn replay(&mut self, call: &[u64]) -> bool {
-        let Some(call) = read(call) else {
-            return false;
-        };
+        let call = read(call);
         let before = *self;
         let mut out = [7u64; 160];
         let answer = answered(
@@ -170,7 +175,8 @@ fn alike(
     after: RegionState,
     out: &[u64],
 ) -> bool {
-    numbers_alike(call.due, answer, after)
+    call.known
+        && numbers_alike(call.due, answer, after)
         && slots_kept(written_from(call, answer, before), answer, before, after)
         && (call.kind != Kind::Runs || runs_alike(call.list, answer.told.unwrap_or(0), out))
 }

@@ -3,6 +3,7 @@
 use crate::figures;
 use crate::state::{Kind, State};
 use plan_record::{Plan, Reply};
+use sample::Number;
 use sample::words::{at, converted, front, list, past, past_list, whole};
 
 #[derive(Clone, Copy)]
@@ -23,24 +24,37 @@ struct Call<'a> {
     starts: u64,
     files: u64,
     due: &'a [u64],
+    known: bool,
 }
 
-// The call, where the lists have so many numbers, the tags are tags, and the name has room.
+// The call. One that is not known is made all the same, with its numbers cut: what follows it is asked of the plan that
+// it leaves.
 fn read(kind: Kind, numbers: &[u64]) -> Option<Call<'_>> {
-    let lists = past(numbers, 7);
-    let call = Call {
+    Some(Call {
         step: step_in(kind, numbers)?,
-        asked: u32::try_from(at(numbers, 3)).ok()?,
+        asked: u32::of(at(numbers, 3)),
         extents: at(numbers, 4),
         starts: at(numbers, 5),
         files: at(numbers, 6),
-        due: past_list(lists),
+        due: past_list(past(numbers, 7)),
+        known: known(kind, numbers),
+    })
+}
+
+// Whether the lists have so many numbers, the tags are tags, a cap is one or none, and the name has room.
+fn known(kind: Kind, numbers: &[u64]) -> bool {
+    let (tag, capped) = match kind {
+        Kind::Create => (at(numbers, 1), 0),
+        Kind::Cap => (at(numbers, 0), at(numbers, 1)),
+        _ => (0, 0),
     };
-    let fits = call.extents <= 7688
-        && call.starts <= 3848
-        && call.files <= 3848
-        && whole(lists, 0, 0, 64, 255);
-    fits.then_some(call)
+    u32::try_from(tag).is_ok()
+        && capped <= 1
+        && u32::try_from(at(numbers, 3)).is_ok()
+        && at(numbers, 4) <= 7688
+        && at(numbers, 5) <= 3848
+        && at(numbers, 6) <= 3848
+        && whole(numbers, 7, 0, 64, 255)
 }
 
 fn step_in(kind: Kind, numbers: &[u64]) -> Option<Step<'_>> {
@@ -50,7 +64,7 @@ fn step_in(kind: Kind, numbers: &[u64]) -> Option<Step<'_>> {
     match kind {
         Kind::Create => Some(Step::Create {
             id: first,
-            tag: u32::try_from(second).ok()?,
+            tag: u32::of(second),
             name: list(past(numbers, 7)),
         }),
         Kind::Grow => Some(Step::Grow { id: first }),
@@ -60,12 +74,8 @@ fn step_in(kind: Kind, numbers: &[u64]) -> Option<Step<'_>> {
         }),
         Kind::Drop => Some(Step::Drop { id: first }),
         Kind::Cap => Some(Step::Cap {
-            tag: u32::try_from(first).ok()?,
-            limit: match second {
-                0 => None,
-                1 => Some(third),
-                _ => return None,
-            },
+            tag: u32::of(first),
+            limit: (second == 1).then_some(third),
         }),
         Kind::Locate => Some(Step::Locate {
             id: first,
@@ -88,7 +98,7 @@ pub(crate) fn replay(state: &mut State, kind: Kind, numbers: &[u64]) -> bool {
         front(&mut state.starts, call.starts),
         front(&mut state.files, call.files),
     );
-    figures::alike(&state.plan, reply, call.asked, call.due)
+    call.known && figures::alike(&state.plan, reply, call.asked, call.due)
 }
 
 // What ours answers; the lists are lent as the call says.

@@ -24,18 +24,20 @@ struct OpenCase<'a> {
     listed: &'a [u64],
     records: &'a [u64],
     due: &'a [u64],
+    known: bool,
 }
 
-// The open, where the lists have so many numbers, and all records are there.
-fn read(numbers: &[u64]) -> Option<OpenCase<'_>> {
+// The open. One that is not known is made all the same, with its numbers cut: what follows it is asked of the plan that
+// it leaves.
+fn read(numbers: &[u64]) -> OpenCase<'_> {
     let lists = past(numbers, 9);
-    let case = OpenCase {
+    OpenCase {
         limits: Limits {
-            log2_block: u8::try_from(at(numbers, 0)).ok()?,
+            log2_block: u8::of(at(numbers, 0)),
             table_end: at(numbers, 1),
             file_len: at(numbers, 2),
         },
-        asked: u32::try_from(at(numbers, 3)).ok()?,
+        asked: u32::of(at(numbers, 3)),
         scratch: at(numbers, 4),
         extents: at(numbers, 5),
         starts: at(numbers, 6),
@@ -44,22 +46,26 @@ fn read(numbers: &[u64]) -> Option<OpenCase<'_>> {
         listed: list(lists),
         records: nth_list(lists, 0, 1),
         due: past_lists(lists, 0, 2),
-    };
-    let fits = case.scratch <= 8192
-        && case.extents <= 7688
-        && case.starts <= 3848
-        && case.files <= 3848
-        && whole(lists, 0, 0, 20000, u64::MAX)
-        && whole(lists, 0, 1, 2752, u64::MAX)
-        && case.records.len() as u64 == 43 * case.count.min(64);
-    fits.then_some(case)
+        known: known(numbers),
+    }
+}
+
+// Whether the lists have so many numbers, and all records are there.
+fn known(numbers: &[u64]) -> bool {
+    u8::try_from(at(numbers, 0)).is_ok()
+        && u32::try_from(at(numbers, 3)).is_ok()
+        && at(numbers, 4) <= 8192
+        && at(numbers, 5) <= 7688
+        && at(numbers, 6) <= 3848
+        && at(numbers, 7) <= 3848
+        && whole(numbers, 9, 0, 20000, u64::MAX)
+        && whole(numbers, 9, 1, 2752, u64::MAX)
+        && nth_list(numbers, 9, 1).len() as u64 == 43 * at(numbers, 8).min(64)
 }
 
 // The state after an open; answers whether it was answered alike.
 pub(crate) fn replay(state: &mut State, numbers: &[u64]) -> bool {
-    let Some(case) = read(numbers) else {
-        return false;
-    };
+    let case = read(numbers);
     let mut scratch = scratch_room();
     let outcome = answered(
         case,
@@ -72,7 +78,7 @@ pub(crate) fn replay(state: &mut State, numbers: &[u64]) -> bool {
     if outcome.reply.is_ok() {
         state.plan = outcome.plan;
     }
-    figures::alike(&state.plan, outcome.reply, case.asked, case.due)
+    case.known && figures::alike(&state.plan, outcome.reply, case.asked, case.due)
 }
 
 fn scratch_room() -> [u64; 8192] {
@@ -97,9 +103,13 @@ fn answered(
     plan_open::open(opening, scratch, extents, starts, files)
 }
 
+// Numbers that are not there count as 0.
 fn records_in(numbers: &[u64]) -> [Record; 64] {
-    let each = numbers.as_chunks::<43>().0;
-    array::from_fn(|i| record_in(each.get(i).unwrap_or(&[0; 43])).into())
+    array::from_fn(|i| {
+        let mut own = [0u64; 43];
+        converted(past(numbers, 43 * i as u64), &mut own);
+        record_in(&own).into()
+    })
 }
 
 // The record that the numbers say.

@@ -1,11 +1,11 @@
--- The rows are mapped, and the rest stays.
+-- The rows are turned one by one, and the rest stays.
 use Rattle.std.proofs.Common.{rules, ◌≡◌, length}
 use Rattle.flat.specs.Flat.{row_from, accounts_from}
-use Rattle.flat.proofs.Turning.{mapped}
+use Rattle.flat.proofs.Turning.{turned}
 use Rattle.flat.proofs.AccountingFromFlatAccounting.from.Goals as goal
 
 pub returns : goal.returns
 unfolding accounts_from
 returns c =
     let l : length c.args.flat.rows ≡ 96 = search rules in
-    rw (mapped row_from _ _ c.map.ensures.items l (λ p x y q k. search rules))
+    rw (turned row_from _ _ l c.loop-i.invariant.long c.loop-i-test.false c.loop-i.invariant.turned)
