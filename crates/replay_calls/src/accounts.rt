@@ -143,6 +143,20 @@ fn made(before: Accounting, posted: Posted) -> Answer {
     }
 }
 
+// What ours makes of the accounts. By itself, since a call clears at once what its function has room for in any arm.
+fn changed(call: Call, accounts: Accounting) -> Posted {
+    let Call { tag, a, b, .. } = call;
+    match call.kind {
+        Kind::AddUsage => accounts.add_usage(tag, a, b),
+        Kind::RemoveUsage => accounts.remove_usage(tag, a, b),
+        Kind::Add => accounts.add(tag, a, b),
+        Kind::Remove => accounts.remove(tag, a, b),
+        Kind::Reserve => accounts.reserve(tag, a),
+        Kind::Unreserve => accounts.unreserve(tag, a),
+        _ => accounts.set_cap(tag, (a != 0).then_some(b)),
+    }
+}
+
 // What ours answers.
 fn answered(call: Call, accounts: Accounting) -> Answer {
     let Call { tag, a, b, .. } = call;
@@ -150,16 +164,10 @@ fn answered(call: Call, accounts: Accounting) -> Answer {
         Kind::Empty => given(Accounting::empty(), None),
         Kind::FromUsage => made(accounts, usages_in(call)),
         Kind::FromEntries => made(accounts, entries_in(call)),
-        Kind::AddUsage => accounts.add_usage(tag, a, b).into(),
-        Kind::RemoveUsage => accounts.remove_usage(tag, a, b).into(),
-        Kind::Add => accounts.add(tag, a, b).into(),
-        Kind::Remove => accounts.remove(tag, a, b).into(),
         Kind::Fits => accounts.fits(tag, a).into(),
-        Kind::Reserve => accounts.reserve(tag, a).into(),
-        Kind::Unreserve => accounts.unreserve(tag, a).into(),
-        Kind::SetCap => accounts.set_cap(tag, (a != 0).then_some(b)).into(),
         Kind::Rows => given(accounts, None),
         Kind::ExtentLen => given(accounts, extent_len(a, b)),
+        _ => changed(call, accounts).into(),
     }
 }
 
