@@ -1,9 +1,9 @@
 -- One list written over the front of another, item by item.
-use Prim.Native.Nat.{ℕ, suc, ◌+◌, ◌≤◌, ◌<◌, min}
+use Prim.Native.Nat.{ℕ, suc, ◌+◌, ◌-◌, ◌≤◌, ◌<◌, min}
 use mathlib.Core.List.{List, [], ◌∷◌, ◌++◌}
 use mathlib.Core.Path.{◌≡◌, refl, ap, sym, ◌∙◌}
 use native.Mathlib.Omega.{arith}
-use lib.ListN.{length, get_or, take, drop, set, length-take}
+use lib.ListN.{length, get_or, take, drop, set, length-take, length-drop}
 use lib.Seq.{drop-cons, append_snoc, set_at, take-append_seam, take-suc, length-take-le}
 use Rattle.std.proofs.Common.{drop_of_length-le, take_all}
 use Rattle.std.proofs.lemmas.List.{append-nil, take_min}
@@ -48,3 +48,10 @@ module _ {A : Type 0} (xs ys : List A) where
   -- what stands at the front then
   pub copied_front : length xs ≤ length ys → take (length xs) (written (take (length ys) xs) ys) ≡ xs
   copied_front l = ap (λ l. take (length xs) l) (copied_fits l) ∙ take-append_seam xs (drop (length xs) ys)
+
+-- behind the first k items of a list, up to its end
+pub copied_rest : {A : Type 0} (xs s : List A) (k : ℕ) → length s ≤ length xs + k
+    → written (take (length (take (length s - k) (drop k s))) (take (length s - k) xs)) (take (length s - k) (drop k s)) ≡ take (length s - k) xs
+copied_rest xs s k l =
+    let n = length s - k in
+    copied_whole (take n xs) (take n (drop k s)) (simp (length-take, length-drop) (omega (arith, l)))

@@ -56,7 +56,9 @@ module _ {rs₀ : List Region} {i last : ℕ} where
     rest = drop-cons rs₀ j past_region (let b = g.upto in let c = g.inside in omega arith)
 
     set_here : (x : Region) → set rs j x ≡ front rs₀ i (j - i) ++ (x ∷ drop (suc j) rs₀)
-    set_here x = ap (λ (l : List Region). set l j x) (g.is ∙ ap (λ (l : List Region). front rs₀ i (j - i) ++ l) rest) ∙ set_at (front rs₀ i (j - i)) (get_or rs₀ j past_region) (drop (suc j) rs₀) x j long
+    set_here x =
+        let f = front rs₀ i (j - i) in
+        ap (λ (l : List Region). set l j x) (g.is ∙ ap (λ (l : List Region). f ++ l) rest) ∙ set_at f (get_or rs₀ j past_region) (drop (suc j) rs₀) x j long
 
     -- what stands behind j has not moved
     next_is : get_or rs (j + 1) past_region ≡ get_or rs₀ (j + 1) past_region

@@ -143,7 +143,8 @@ fn made(before: Accounting, posted: Posted) -> Answer {
     }
 }
 
-// What ours makes of the accounts. By itself, since a call clears at once what its function has room for in any arm.
+// What a posting, or else a cap, makes of the accounts. Not in `answered`: it would clear room for each arm's answer at
+// every call, 4.6 KB each.
 fn changed(call: Call, accounts: Accounting) -> Posted {
     let Call { tag, a, b, .. } = call;
     match call.kind {
@@ -167,7 +168,13 @@ fn answered(call: Call, accounts: Accounting) -> Answer {
         Kind::Fits => accounts.fits(tag, a).into(),
         Kind::Rows => given(accounts, None),
         Kind::ExtentLen => given(accounts, extent_len(a, b)),
-        _ => changed(call, accounts).into(),
+        Kind::AddUsage
+        | Kind::RemoveUsage
+        | Kind::Add
+        | Kind::Remove
+        | Kind::Reserve
+        | Kind::Unreserve
+        | Kind::SetCap => changed(call, accounts).into(),
     }
 }
 

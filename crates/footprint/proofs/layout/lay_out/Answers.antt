@@ -1,11 +1,11 @@
 -- `footprint::layout::lay_out` meets its contract: the slots are filled, sorted, and their neighbours looked at.
-use Prim.Native.Nat.{ℕ, ◌-◌}
+use Prim.Native.Nat.{ℕ, ◌+◌, ◌-◌, ◌≤◌}
 use borrow.Rule.Slice.PartMut.{put_mid, same_len_mid}
 use mathlib.Core.List.{List}
 use mathlib.Core.Path.{◌≡◌, ◌∙◌}
 use native.Mathlib.Omega.{arith}
-use lib.ListN.{length-set, length-take, length-drop, drop, set, take, length}
-use Rattle.numbers.proofs.Copying.{copied_whole}
+use lib.ListN.{length-set, set, length}
+use Rattle.numbers.proofs.Copying.{copied_rest}
 use Rattle.footprint.proofs.Blocks.{exact}
 use Rattle.footprint.proofs.Laying.{copied_behind, filled, in_order, laid_apart, laid_out}
 use Rattle.footprint.proofs.layout.lay_out.Goals as goal
@@ -26,9 +26,9 @@ module _ (c : After-copy) where
 
   filling : put_mid 4 (length four - 4) four c.copy.new.to ≡ filled a block b block c.args.entry.extent_count c.args.extents.now c.args.s.now
   filling =
-      let n = length four - 4 in
-      copied_behind four c.args.extents.now _ (simp length-set (omega (arith, c.requires.1))) (simp length-set (omega (arith, c.requires.1, c.requires.2)))
-      (c.copy.ensures ∙ copied_whole (take n c.args.extents.now) (take n (drop 4 four)) (simp (length-take, length-drop, length-set) (omega (arith, c.requires.1, c.requires.2))))
+      let xs = c.args.extents.now in
+      let l : length four ≤ length xs + 4 = simp length-set (omega (arith, c.requires.1, c.requires.2)) in
+      copied_behind four xs _ (simp length-set (omega (arith, c.requires.1))) l (c.copy.ensures ∙ copied_rest xs four 4 l)
 
 pub bounds-s-0 : goal.bounds-s-0
 bounds-s-0 c = omega (arith, c.requires.1)

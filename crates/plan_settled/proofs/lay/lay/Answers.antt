@@ -1,6 +1,6 @@
 -- `plan_settled::lay::lay` meets its contract: both header blocks, and the committed extents behind them.
-use Rattle.std.proofs.Common.{arith, ◌-◌, ◌∙◌, length, take, drop, length-set, length-take, length-drop}
-use Rattle.numbers.proofs.Copying.{copied_whole}
+use Rattle.std.proofs.Common.{arith, ◌+◌, ◌≤◌, ◌∙◌, length, length-set}
+use Rattle.numbers.proofs.Copying.{copied_rest}
 use Rattle.plan_record.specs.Record.{record_of}
 use Rattle.plan_record.proofs.Holding.{block_small}
 use Rattle.plan_settled.proofs.Laying.{headed, laid}
@@ -11,7 +11,6 @@ returns c =
     let r = record_of c.args.one in
     let own = c.args.own.now in
     let four = headed c.args.limits r own c.block_of-block.result c.args.s.now in
-    let n = length four - 4 in
+    let l : length four ≤ length own + 4 = simp length-set (omega (arith, c.requires.1, c.requires.2)) in
     laid c.args.limits r own c.block_of-block.result c.args.s.now _
-    (block_small c.block_of-block.ensures.0 (omega (arith, c.requires.0))) c.requires.1 c.requires.2
-    (c.copy.ensures ∙ copied_whole (take n own) (take n (drop 4 four)) (simp (length-take, length-drop, length-set) (omega (arith, c.requires.1, c.requires.2))))
+    (block_small c.block_of-block.ensures.0 (omega (arith, c.requires.0))) c.requires.1 c.requires.2 (c.copy.ensures ∙ copied_rest own four 4 l)
